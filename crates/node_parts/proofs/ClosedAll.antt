@@ -8,7 +8,7 @@ use Rattle.gc_model.specs.declared.collection.Collection.{Collection}
 use Rattle.gc_model.specs.Collecting.{Open, IsNumbered, number_of}
 use Rattle.node_parts.specs.Collects.{closed_all}
 
-left_all : List ℕ → List Collection → List Collection
+abbrev left_all : List ℕ → List Collection → List Collection
 left_all [] cs = cs
 left_all (n ∷ ns) cs = left_all ns (left_of number_of n cs)
 

@@ -181,7 +181,7 @@ module _ {R : Type 0} (join : R → R → R) (s : Words R) (id now version : ℕ
         no_and true = refl
         no_and false = refl
 
-        begins_true : R → Progress R Layout → Progress R Layout
+        abbrev begins_true : R → Progress R Layout → Progress R Layout
         begins_true r t = record {
           gc = begun_with t.gc (s.key r) (bytes_of s r) id version;
           posts = t.posts ++ to_each (others id) (Tomb (t.gc.begun + 1) 1 (bytes_of s r));

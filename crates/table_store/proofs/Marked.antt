@@ -82,22 +82,20 @@ pub noted_within : (limit ts : ℕ) (key : List ℕ) → leb ts limit ≡ true �
 noted_within limit ts key low [] has = has
 noted_within limit ts key low (e ∷ es) has = here_by (is_eq (nat_cmp ts e.0)) refl has
   where
-    kept : Bool → List (ℕ × BTreeSet Key)
-    kept b = cond b (e ∷ entries_between nat_cmp Unbounded (Included limit) es) (entries_between nat_cmp Unbounded (Included limit) es)
+    or_true : (b : Bool) → (b || true) ≡ true
+    or_true true = refl
+    or_true false = refl
 
-    later : (b : Bool) → noted_in key (entries_between nat_cmp Unbounded (Included limit) es) ≡ true → noted_in key (kept b) ≡ true
+    later : (b : Bool) → noted_in key (entries_between nat_cmp Unbounded (Included limit) es) ≡ true → noted_in key (cond b (e ∷ entries_between nat_cmp Unbounded (Included limit) es) (entries_between nat_cmp Unbounded (Included limit) es)) ≡ true
     later true h = ap (λ b. has_key key e.1.keys || b) h ∙ or_true (has_key key e.1.keys)
-      where
-        or_true : (b : Bool) → (b || true) ≡ true
-        or_true true = refl
-        or_true false = refl
     later false h = h
 
-    here_by : (b : Bool) → is_eq (nat_cmp ts e.0) ≡ b → has_key_in key (cond b (Some e.1) (lookup (is_at (nat_cmp ts)) es)) ≡ true → noted_in key (kept (not (is_lt (nat_cmp limit e.0)))) ≡ true
+    here_by : (b : Bool) → is_eq (nat_cmp ts e.0) ≡ b → has_key_in key (cond b (Some e.1) (lookup (is_at (nat_cmp ts)) es)) ≡ true → noted_in key (entries_between nat_cmp Unbounded (Included limit) (e ∷ es)) ≡ true
     here_by true h has =
         let one : ts ≡ e.0 = nat_identical ts e.0 ((Equal-is _).0 h) in
         let within = within_by limit e.0 (ap (λ t. leb t limit) (sym one) ∙ low) (nat_cmp limit e.0) refl in
-        ap (λ b. noted_in key (kept b)) within ∙ ap (λ b. b || noted_in key (entries_between nat_cmp Unbounded (Included limit) es)) has
+        ap (λ b. noted_in key (cond b (e ∷ entries_between nat_cmp Unbounded (Included limit) es) (entries_between nat_cmp Unbounded (Included limit) es))) within
+        ∙ ap (λ b. b || noted_in key (entries_between nat_cmp Unbounded (Included limit) es)) has
     here_by false h has = later (not (is_lt (nat_cmp limit e.0))) (noted_within limit ts key low es has)
 
 -- ---- rows
