@@ -169,6 +169,14 @@ module _ {R : Type 0} (join : R → R → R) (s : Words R) (id now version : ℕ
     or_parts true b h = cc
     or_parts false b h = (refl, h)
 
+    -- a collection of the row begins
+    abbrev begins_true : R → Progress R Layout → Progress R Layout
+    begins_true r t = record {
+      gc = begun_with t.gc (s.key r) (bytes_of s r) id version;
+      posts = t.posts ++ to_each (others id) (Tomb (t.gc.begun + 1) 1 (bytes_of s r));
+      begun = t.begun + 1;
+    }
+
     -- a row that is not looked at changes nothing
     passed : (r : R) (t : Progress R Layout) → has (s.key r) t.gc.collections ≡ has (s.key r) gc.collections → is_looked_at r ≡ false → stepped r t ≡ t
     passed r t same h =
@@ -180,13 +188,6 @@ module _ {R : Type 0} (join : R → R → R) (s : Words R) (id now version : ℕ
         no_and : (b : Bool) → (b && false) ≡ false
         no_and true = refl
         no_and false = refl
-
-        abbrev begins_true : R → Progress R Layout → Progress R Layout
-        begins_true r t = record {
-          gc = begun_with t.gc (s.key r) (bytes_of s r) id version;
-          posts = t.posts ++ to_each (others id) (Tomb (t.gc.begun + 1) 1 (bytes_of s r));
-          begun = t.begun + 1;
-        }
 
     any_numbered : (r : R) (t : Progress R Layout) → IsNumbered t.gc.begun t.gc.collections → IsNumbered (stepped r t).gc.begun (stepped r t).gc.collections
     any_numbered r t numbered = (stepped_keeps (0 ∷ s.key r) r t (longer (s.key r)) numbered).numbered
