@@ -160,30 +160,29 @@ either_key (Err e) f v y same ok err = ap (λ c. c.key) err
 
 -- ---- the first collection of a key
 
+above_by : (key : List ℕ) (n low : ℕ) (x : Collection) (xs : List Collection) → low < x.number → (slice_get (numbers key xs) 0 ≡ Some n → x.number < n) → (b : Bool) → slice_get (map number_of (cond b (x ∷ filter (is_of key) xs) (filter (is_of key) xs))) 0 ≡ Some n → low < n
+above_by key n low x xs above rest true is = let here : x.number ≡ n = same_Some x.number n is in omega (arith, above, here)
+above_by key n low x xs above rest false is = let later = rest is in omega (arith, above, later)
+
 first_above : (key : List ℕ) (n low : ℕ) (cs : List Collection) → Rises low (map number_of cs) → slice_get (numbers key cs) 0 ≡ Some n → low < n
 first_above key n low [] rises is = absurd (let no : false ≡ true = ap is_some is in cc)
-first_above key n low (x ∷ xs) rises is = above_by (is_of key x) is
-  where
-    above_by : (b : Bool) → slice_get (map number_of (cond b (x ∷ filter (is_of key) xs) (filter (is_of key) xs))) 0 ≡ Some n → low < n
-    above_by true is = let here : x.number ≡ n = same_Some x.number n is in omega (arith, rises.0, here)
-    above_by false is = let later = first_above key n x.number xs rises.1 is in omega (arith, rises.0, later)
+first_above key n low (x ∷ xs) rises is = above_by key n low x xs rises.0 (first_above key n x.number xs rises.1) (is_of key x) is
+
+keyed_by : (key : List ℕ) (n : ℕ) (x : Collection) (xs : List Collection) → (slice_get (numbers key xs) 0 ≡ Some n → x.number < n) → (slice_get (numbers key xs) 0 ≡ Some n → find (λ c. c.number == n) xs ≡ find (is_of key) xs) →
+    (b : Bool) → slice_get (map number_of (cond b (x ∷ filter (is_of key) xs) (filter (is_of key) xs))) 0 ≡ Some n → cond (x.number == n) (Some x) (find (λ c. c.number == n) xs) ≡ cond b (Some x) (find (is_of key) xs)
+keyed_by key n x xs above rest true is = ap (λ b. cond b (Some x) (find (λ c. c.number == n) xs)) (eq-eqb x.number n (same_Some x.number n is))
+keyed_by key n x xs above rest false is = ap (λ b. cond b (Some x) (find (λ c. c.number == n) xs)) (apart_above x.number n (above is)) ∙ rest is
+
+none_by : (key : List ℕ) (x : Collection) (xs : List Collection) → (slice_get (numbers key xs) 0 ≡ None → find (is_of key) xs ≡ None) → (b : Bool) → slice_get (map number_of (cond b (x ∷ filter (is_of key) xs) (filter (is_of key) xs))) 0 ≡ None → cond b (Some x) (find (is_of key) xs) ≡ None
+none_by key x xs rest true is = absurd (let no : true ≡ false = ap is_some is in cc)
+none_by key x xs rest false is = rest is
 
 -- a key's first number is that of its first collection
 pub first_keyed : (key : List ℕ) (n low : ℕ) (cs : List Collection) → Rises low (map number_of cs) → slice_get (numbers key cs) 0 ≡ Some n → find (λ c. c.number == n) cs ≡ find (is_of key) cs
 first_keyed key n low [] rises is = refl
-first_keyed key n low (x ∷ xs) rises is = keyed_by (is_of key x) is
-  where
-    keyed_by : (b : Bool) → slice_get (map number_of (cond b (x ∷ filter (is_of key) xs) (filter (is_of key) xs))) 0 ≡ Some n → cond (x.number == n) (Some x) (find (λ c. c.number == n) xs) ≡ cond b (Some x) (find (is_of key) xs)
-    keyed_by true is = ap (λ b. cond b (Some x) (find (λ c. c.number == n) xs)) (eq-eqb x.number n (same_Some x.number n is))
-    keyed_by false is =
-        let later = first_above key n x.number xs rises.1 is in
-        ap (λ b. cond b (Some x) (find (λ c. c.number == n) xs)) (apart_above x.number n later) ∙ first_keyed key n x.number xs rises.1 is
+first_keyed key n low (x ∷ xs) rises is = keyed_by key n x xs (first_above key n x.number xs rises.1) (first_keyed key n x.number xs rises.1) (is_of key x) is
 
 -- a key without numbers has no collection
 pub none_of : (key : List ℕ) (cs : List Collection) → slice_get (numbers key cs) 0 ≡ None → find (is_of key) cs ≡ None
 none_of key [] is = refl
-none_of key (x ∷ xs) is = none_by (is_of key x) is
-  where
-    none_by : (b : Bool) → slice_get (map number_of (cond b (x ∷ filter (is_of key) xs) (filter (is_of key) xs))) 0 ≡ None → cond b (Some x) (find (is_of key) xs) ≡ None
-    none_by true is = absurd (let no : true ≡ false = ap is_some is in cc)
-    none_by false is = none_of key xs is
+none_of key (x ∷ xs) is = none_by key x xs (none_of key xs) (is_of key x) is

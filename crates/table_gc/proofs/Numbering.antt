@@ -1,5 +1,5 @@
 -- The collection with a number, found, and collections that keep their numbers.
-use Rattle.std.proofs.Common.{◌≡◌, ◌<◌, ℕ, zero, suc, ◌+◌, true, false, ◌==◌, Bool, cond, List, [], ◌∷◌, ◌++◌, Some, None, length, map, Result, Ok, Err, refl, ap, sym, ◌∙◌, eq-eqb}
+use Rattle.std.proofs.Common.{◌≡◌, ◌<◌, ℕ, zero, suc, ◌+◌, true, false, ◌==◌, Bool, cond, List, [], ◌∷◌, ◌++◌, Option, Some, None, length, map, Result, Ok, Err, refl, ap, sym, ◌∙◌, eq-eqb}
 use Rattle.std.specs.Prelude.{if◌then◌else◌, slice_get, OnErr}
 use Rattle.std.specs.List.{find}
 use Rattle.std.specs.Option.{is_some}
@@ -28,14 +28,14 @@ one_found n low (x ∷ xs) (suc i) v r at_i is =
     let later : x.number < n = above_item number_of n x.number xs i v r.1 at_i is in
     rw (apart_above x.number n later) (one_found n x.number xs i v r.1 at_i is)
 
+found_by : (n : ℕ) (x v : Collection) (b : Bool) → (x.number == n) ≡ b → (o : Option Collection) → (o ≡ Some v → v.number ≡ n) → cond b (Some x) o ≡ Some v → v.number ≡ n
+found_by n x v true h o rest is = sym (ap number_of (same_Some x v is)) ∙ eqb-true x.number n h
+found_by n x v false h o rest is = rest is
+
 -- what is found by a number has it
 pub found_number : (n : ℕ) (cs : List Collection) (v : Collection) → find (λ x. x.number == n) cs ≡ Some v → v.number ≡ n
 found_number n [] v is = absurd (let no : false ≡ true = ap is_some is in cc)
-found_number n (x ∷ xs) v is = found_by (x.number == n) refl is
-  where
-    found_by : (b : Bool) → (x.number == n) ≡ b → cond b (Some x) (find (λ x. x.number == n) xs) ≡ Some v → v.number ≡ n
-    found_by true h is = ap number_of (sym (same_Some x v is)) ∙ eqb-true x.number n h
-    found_by false h is = found_number n xs v is
+found_number n (x ∷ xs) v is = found_by n x v (x.number == n) refl (find (λ y. y.number == n) xs) (found_number n xs v) is
 
 answer_number : (node newest now : ℕ) (c : Collection) → (after_answer node newest now c).number ≡ c.number
 answer_number node newest now c =

@@ -12,12 +12,13 @@ use Rattle.table_gc.proofs.keys.add.Goals as goal
 
 -- ---- the key has numbers
 
-pub returns-in_err-push-in-Some-clause-err : goal.returns-in_err-push-in-Some-clause-err
-returns-in_err-push-in-Some-clause-err c =
+pub returns-in_err-push-clause-err : goal.returns-in_err-push-clause-err
+returns-in_err-push-clause-err c =
     let there = sym c.in-Some.ensures.value in
     let later = c.get_mut.follows.lender c.push.new.self in
-    on_err _ (numbers_same c.as_slice.result.now c.args.keys.now later (Some c.push.new.self) ((c.get_mut.follows.holds c.push.new.self).3 (ap is_some there))
-    (c.in_err-push-in-Some.ensures.items ∙ ap numbers_in (sym there)))
+    let same : (other : List ℕ) → numbers_at other later ≡ numbers_at other c.args.keys.now =
+        numbers_same c.as_slice.result.now c.args.keys.now later (Some c.push.new.self) ((c.get_mut.follows.holds c.push.new.self).3 (ap is_some there)) (c.in_err-push.ensures.items ∙ ap numbers_in (sym there)) in
+    on_err c.from_residual-in_err-push.result same
 
 pub returns-in-Some-clause-ok : goal.returns-in-Some-clause-ok
 returns-in-Some-clause-ok c =
@@ -25,16 +26,20 @@ returns-in-Some-clause-ok c =
     let later = c.get_mut.follows.lender c.push.new.self in
     subst (λ key. Adds key c.args.number c.args.keys.now later) c.as_slice.ensures.value
     (numbers_changed c.as_slice.result.now c.args.keys.now later (Some c.push.new.self) ((c.get_mut.follows.holds c.push.new.self).3 (ap is_some there))
-    (λ ns. ns ++ c.args.number ∷ []) (c.in_ok-push-in-Some.ensures.items ∙ ap (λ o. numbers_in o ++ c.args.number ∷ []) (sym there)))
+    (λ ns. ns ++ c.args.number ∷ []) (c.in_ok-push.ensures.items ∙ ap (λ o. numbers_in o ++ c.args.number ∷ []) (sym there)))
 
 -- ---- it has none yet
 
 pub returns-in_err-push-2-clause-err : goal.returns-in_err-push-2-clause-err
-returns-in_err-push-2-clause-err c = on_err _ (λ (other : List ℕ). ap (numbers_at other) c.get_mut.follows.holds-at-none)
+returns-in_err-push-2-clause-err c =
+    let same : (other : List ℕ) → numbers_at other c.get_mut.follows.lender-at-none ≡ numbers_at other c.args.keys.now = λ other. ap (numbers_at other) c.get_mut.follows.holds-at-none in
+    on_err c.from_residual-in_err-push-2.result same
 
 pub returns-in_err-insert-clause-err : goal.returns-in_err-insert-clause-err
 returns-in_err-insert-clause-err c =
-    on_err _ (λ (other : List ℕ). ap (λ es. numbers_in (lookup (is_at (λ (k : Vec ℕ). slice_cmp nat_cmp other k.items)) es)) c.in_err-insert.ensures.err ∙ ap (numbers_at other) c.get_mut.follows.holds-at-none)
+    let same : (other : List ℕ) → numbers_at other c.insert.new.self ≡ numbers_at other c.args.keys.now =
+        λ other. ap (λ es. numbers_in (lookup (is_at (λ (k : Vec ℕ). slice_cmp nat_cmp other k.items)) es)) c.in_err-insert.ensures.err ∙ ap (numbers_at other) c.get_mut.follows.holds-at-none in
+    on_err c.from_residual-in_err-insert.result same
 
 pub returns-clause-ok : goal.returns-clause-ok
 returns-clause-ok c =

@@ -6,8 +6,8 @@ use Rattle.table_store.specs.Markers.{has_key_in}
 use Rattle.table_store.proofs.Marking.{all_stay, marked_here, same_stay}
 use Rattle.table_store.proofs.markers.mark.Goals as goal
 
-pub returns-in_err-add_to-in-Some-clause-stay : goal.returns-in_err-add_to-in-Some-clause-stay
-returns-in_err-add_to-in-Some-clause-stay c =
+pub returns-in_err-add_to-clause-stay : goal.returns-in_err-add_to-clause-stay
+returns-in_err-add_to-clause-stay c =
     let later = c.get_mut.follows.lender c.add_to.new.keys in
     let there = sym c.in-Some.ensures.value in
     all_stay c.args.markers.now later c.args.ts (Some c.add_to.new.keys) ((c.get_mut.follows.holds c.add_to.new.keys).3 (ap is_some there)).0
@@ -24,7 +24,7 @@ pub returns-in-Some-clause-marked : goal.returns-in-Some-clause-marked
 returns-in-Some-clause-marked c =
     let later = c.get_mut.follows.lender c.add_to.new.keys in
     let there = sym c.in-Some.ensures.value in
-    marked_here c.args.markers.now later c.args.ts (Some c.add_to.new.keys) ((c.get_mut.follows.holds c.add_to.new.keys).3 (ap is_some there)).0 c.args.key.now c.in_ok-add_to-in-Some.ensures.has
+    marked_here c.args.markers.now later c.args.ts (Some c.add_to.new.keys) ((c.get_mut.follows.holds c.add_to.new.keys).3 (ap is_some there)).0 c.args.key.now c.in_ok-add_to.ensures.has
 
 -- ---- nothing is noted at the timestamp yet
 
