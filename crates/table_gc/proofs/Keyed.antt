@@ -108,15 +108,16 @@ keyed_more c cs old new adds are key = adds key ∙ more_by (is_of key c) refl
     more_by false h = are key ∙ sym (more_apart key c h cs)
 
 -- without one of the collections
+left_by : (key : List ℕ) (n : ℕ) (x : Collection) (xs : List Collection) → numbers key (left_of number_of n xs) ≡ filter (λ m. not (m == n)) (numbers key xs) → (a : Bool) → (x.number == n) ≡ a → (b : Bool) → is_of key x ≡ b →
+    numbers key (cond (not (x.number == n)) (x ∷ left_of number_of n xs) (left_of number_of n xs)) ≡ filter (λ m. not (m == n)) (map number_of (cond (is_of key x) (x ∷ filter (is_of key) xs) (filter (is_of key) xs)))
+left_by key n x xs rest true h true of-key = rw (h, of-key) (rw h rest)
+left_by key n x xs rest true h false of-key = rw (h, of-key) rest
+left_by key n x xs rest false h true of-key = rw (h, of-key) (rw (h, of-key) (ap (λ ns. x.number ∷ ns) rest))
+left_by key n x xs rest false h false of-key = rw (h, of-key) (rw of-key rest)
+
 filter_numbers : (key : List ℕ) (n : ℕ) (cs : List Collection) → numbers key (left_of number_of n cs) ≡ filter (λ m. not (m == n)) (numbers key cs)
 filter_numbers key n [] = refl
-filter_numbers key n (x ∷ xs) = both_by (x.number == n) refl (is_of key x) refl
-  where
-    both_by : (a : Bool) → (x.number == n) ≡ a → (b : Bool) → is_of key x ≡ b → numbers key (cond (not (x.number == n)) (x ∷ left_of number_of n xs) (left_of number_of n xs)) ≡ filter (λ m. not (m == n)) (map number_of (cond (is_of key x) (x ∷ filter (is_of key) xs) (filter (is_of key) xs)))
-    both_by true h true of-key = rw (h, of-key) (rw h (filter_numbers key n xs))
-    both_by true h false of-key = rw (h, of-key) (filter_numbers key n xs)
-    both_by false h true of-key = rw (h, of-key) (rw (h, of-key) (ap (λ ns. x.number ∷ ns) (filter_numbers key n xs)))
-    both_by false h false of-key = rw (h, of-key) (rw of-key (filter_numbers key n xs))
+filter_numbers key n (x ∷ xs) = left_by key n x xs (filter_numbers key n xs) (x.number == n) refl (is_of key x) refl
 
 without_apart : (key : List ℕ) (cs : List Collection) (i : ℕ) (v : Collection) → slice_get cs i ≡ Some v → is_of key v ≡ false → filter (is_of key) (remove cs i) ≡ filter (is_of key) cs
 without_apart key [] i v at_i apart = absurd (let no : false ≡ true = ap is_some at_i in cc)
@@ -127,11 +128,11 @@ without_apart key (x ∷ xs) (suc i) v at_i apart =
     ap (λ rest. cond (is_of key x) (x ∷ rest) rest) (without_apart key xs i v at_i apart)
 
 pub keyed_left : (n i : ℕ) (v : Collection) (cs : List Collection) (old new : Keys) → Rises 0 (map number_of cs) → slice_get cs i ≡ Some v → v.number ≡ n → Removes v.key n old new → AreKeyed old cs → AreKeyed new (left_of number_of n cs)
-keyed_left n i v cs old new rises at_i is removes are key = removes key ∙ left_by (is_of key v) refl
+keyed_left n i v cs old new rises at_i is removes are key = removes key ∙ gone_by (is_of key v) refl
   where
-    left_by : (b : Bool) → is_of key v ≡ b → cond b (filter (λ m. not (m == n)) (numbers_at key old)) (numbers_at key old) ≡ numbers key (left_of number_of n cs)
-    left_by true h = ap (filter (λ m. not (m == n))) (are key) ∙ sym (filter_numbers key n cs)
-    left_by false h = are key ∙ ap (map number_of) (sym (without_apart key cs i v at_i h) ∙ ap (filter (is_of key)) (one_left_out number_of n 0 cs i v rises at_i is))
+    gone_by : (b : Bool) → is_of key v ≡ b → cond b (filter (λ m. not (m == n)) (numbers_at key old)) (numbers_at key old) ≡ numbers key (left_of number_of n cs)
+    gone_by true h = ap (filter (λ m. not (m == n))) (are key) ∙ sym (filter_numbers key n cs)
+    gone_by false h = are key ∙ ap (map number_of) (sym (without_apart key cs i v at_i h) ∙ ap (filter (is_of key)) (one_left_out number_of n 0 cs i v rises at_i is))
 
 -- with one in the place of another that has its number and its key
 pub keyed_set : (i : ℕ) (v y : Collection) (cs : List Collection) (keys : Keys) → slice_get cs i ≡ Some v → y.number ≡ v.number → y.key ≡ v.key → AreKeyed keys cs → AreKeyed keys (slice_set cs i y)

@@ -77,41 +77,47 @@ within_by limit ts low Less is =
 within_by limit ts low Equal is = refl
 within_by limit ts low Greater is = refl
 
+or_true : (b : Bool) → (b || true) ≡ true
+or_true true = refl
+or_true false = refl
+
+later : (limit : ℕ) (key : List ℕ) (e : ℕ × BTreeSet Key) (es : List (ℕ × BTreeSet Key)) (b : Bool) → noted_in key (entries_between nat_cmp Unbounded (Included limit) es) ≡ true →
+    noted_in key (cond b (e ∷ entries_between nat_cmp Unbounded (Included limit) es) (entries_between nat_cmp Unbounded (Included limit) es)) ≡ true
+later limit key e es true h = ap (λ b. has_key key e.1.keys || b) h ∙ or_true (has_key key e.1.keys)
+later limit key e es false h = h
+
+here_by : (limit ts : ℕ) (key : List ℕ) → leb ts limit ≡ true → (e : ℕ × BTreeSet Key) (es : List (ℕ × BTreeSet Key)) → (has_key_in key (lookup (is_at (nat_cmp ts)) es) ≡ true → noted_in key (entries_between nat_cmp Unbounded (Included limit) es) ≡ true) →
+    (b : Bool) → is_eq (nat_cmp ts e.0) ≡ b → has_key_in key (cond b (Some e.1) (lookup (is_at (nat_cmp ts)) es)) ≡ true → noted_in key (entries_between nat_cmp Unbounded (Included limit) (e ∷ es)) ≡ true
+here_by limit ts key low e es rest true h has =
+    let one : ts ≡ e.0 = nat_identical ts e.0 ((Equal-is _).0 h) in
+    let within = within_by limit e.0 (ap (λ t. leb t limit) (sym one) ∙ low) (nat_cmp limit e.0) refl in
+    ap (λ b. noted_in key (cond b (e ∷ entries_between nat_cmp Unbounded (Included limit) es) (entries_between nat_cmp Unbounded (Included limit) es))) within
+    ∙ ap (λ b. b || noted_in key (entries_between nat_cmp Unbounded (Included limit) es)) has
+here_by limit ts key low e es rest false h has = later limit key e es (not (is_lt (nat_cmp limit e.0))) (rest has)
+
 pub noted_within : (limit ts : ℕ) (key : List ℕ) → leb ts limit ≡ true → (es : List (ℕ × BTreeSet Key)) → has_key_in key (lookup (is_at (nat_cmp ts)) es) ≡ true →
     noted_in key (entries_between nat_cmp Unbounded (Included limit) es) ≡ true
 noted_within limit ts key low [] has = has
-noted_within limit ts key low (e ∷ es) has = here_by (is_eq (nat_cmp ts e.0)) refl has
-  where
-    or_true : (b : Bool) → (b || true) ≡ true
-    or_true true = refl
-    or_true false = refl
-
-    later : (b : Bool) → noted_in key (entries_between nat_cmp Unbounded (Included limit) es) ≡ true → noted_in key (cond b (e ∷ entries_between nat_cmp Unbounded (Included limit) es) (entries_between nat_cmp Unbounded (Included limit) es)) ≡ true
-    later true h = ap (λ b. has_key key e.1.keys || b) h ∙ or_true (has_key key e.1.keys)
-    later false h = h
-
-    here_by : (b : Bool) → is_eq (nat_cmp ts e.0) ≡ b → has_key_in key (cond b (Some e.1) (lookup (is_at (nat_cmp ts)) es)) ≡ true → noted_in key (entries_between nat_cmp Unbounded (Included limit) (e ∷ es)) ≡ true
-    here_by true h has =
-        let one : ts ≡ e.0 = nat_identical ts e.0 ((Equal-is _).0 h) in
-        let within = within_by limit e.0 (ap (λ t. leb t limit) (sym one) ∙ low) (nat_cmp limit e.0) refl in
-        ap (λ b. noted_in key (cond b (e ∷ entries_between nat_cmp Unbounded (Included limit) es) (entries_between nat_cmp Unbounded (Included limit) es))) within
-        ∙ ap (λ b. b || noted_in key (entries_between nat_cmp Unbounded (Included limit) es)) has
-    here_by false h has = later (not (is_lt (nat_cmp limit e.0))) (noted_within limit ts key low es has)
+noted_within limit ts key low (e ∷ es) has = here_by limit ts key low e es (noted_within limit ts key low es) (is_eq (nat_cmp ts e.0)) refl has
 
 -- ---- rows
 
 module _ {R Z : Type 0} (s : Words R) where
   -- the row at a key, placed
-  place_by : (key : List ℕ) (rows : List (Vec ℕ Z × Placed R)) (row : R) → shelf_find key rows ≡ Some row → (placed : Placed R) × (placed_at key rows ≡ Some placed) × (placed.row ≡ row)
+  abbrev Place : List ℕ → List (Vec ℕ Z × Placed R) → R → Type 0
+  Place key rows row = (placed : Placed R) × (placed_at key rows ≡ Some placed) × (placed.row ≡ row)
+
+  some_is : (a b : R) → Some a ≡ Some b → a ≡ b
+  some_is a b h = cc
+
+  at_place : (key : List ℕ) (e : Vec ℕ Z × Placed R) (es : List (Vec ℕ Z × Placed R)) (row : R) → (shelf_find key es ≡ Some row → Place key es row) → (b : Bool) → cond b (Some e.1.row) (shelf_find key es) ≡ Some row →
+      (placed : Placed R) × (cond b (Some e.1) (placed_at key es) ≡ Some placed) × (placed.row ≡ row)
+  at_place key e es row rest true is = (e.1, refl, some_is e.1.row row is)
+  at_place key e es row rest false is = rest is
+
+  place_by : (key : List ℕ) (rows : List (Vec ℕ Z × Placed R)) (row : R) → shelf_find key rows ≡ Some row → Place key rows row
   place_by key [] row is = absurd (let no : false ≡ true = ap is_some is in cc)
-  place_by key (e ∷ es) row is = by (is_eq (slice_cmp nat_cmp key e.0.items)) is
-    where
-      by : (b : Bool) → cond b (Some e.1.row) (shelf_find key es) ≡ Some row → (placed : Placed R) × (cond b (Some e.1) (placed_at key es) ≡ Some placed) × (placed.row ≡ row)
-      by true is = (e.1, refl, some_is e.1.row row is)
-        where
-          some_is : (a b : R) → Some a ≡ Some b → a ≡ b
-          some_is a b h = cc
-      by false is = place_by key es row is
+  place_by key (e ∷ es) row is = at_place key e es row (place_by key es row) (is_eq (slice_cmp nat_cmp key e.0.items)) is
 
   module _ (limit : ℕ) (markers : Markers) (rows : List (Vec ℕ Z × Placed R)) (all : AllMarked s markers rows) where
     noted_by : (key : List ℕ) (row : R) → shelf_find key rows ≡ Some row → (o : Option (ℕ × ℕ)) → s.marker row ≡ o → is_by s limit o ≡ true →
