@@ -102,13 +102,13 @@ noted_within limit ts key low (e ∷ es) has = here_by limit ts key low e es (no
 
 -- ---- rows
 
+some_is : {X : Type 0} (a b : X) → Some a ≡ Some b → a ≡ b
+some_is a b h = cc
+
 module _ {R Z : Type 0} (s : Words R) where
   -- the row at a key, placed
   abbrev Place : List ℕ → List (Vec ℕ Z × Placed R) → R → Type 0
   Place key rows row = (placed : Placed R) × (placed_at key rows ≡ Some placed) × (placed.row ≡ row)
-
-  some_is : (a b : R) → Some a ≡ Some b → a ≡ b
-  some_is a b h = cc
 
   at_place : (key : List ℕ) (e : Vec ℕ Z × Placed R) (es : List (Vec ℕ Z × Placed R)) (row : R) → (shelf_find key es ≡ Some row → Place key es row) → (b : Bool) → cond b (Some e.1.row) (shelf_find key es) ≡ Some row →
       (placed : Placed R) × (cond b (Some e.1) (placed_at key es) ≡ Some placed) × (placed.row ≡ row)

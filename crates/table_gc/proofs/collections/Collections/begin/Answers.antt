@@ -11,7 +11,7 @@ use Rattle.table_gc.proofs.collections.Collections.begin.Goals as goal
 
 pub invariant_of-self-in-Err : goal.invariant_of-self-in-Err
 invariant_of-self-in-Err c =
-    let back : c.truncate.new.self ≡ c.self.inside.list = c.truncate.ensures ∙ ((λ i. take (c.len.ensures i) (c.in_ok-push-2.ensures.ok i)) ∙ take-append_seam c.self.inside.list _) in
+    let back : c.truncate.new.self ≡ c.self.inside.list = c.truncate.ensures ∙ ((λ i. take (c.len-count.ensures i) (c.in_ok-push-2.ensures.ok i)) ∙ take-append_seam c.self.inside.list _) in
     record {
       numbered = rw back c.self.invariant.numbered;
       keyed = λ key. c.in-Err.ensures.err key ∙ (c.self.invariant.keyed key ∙ ap (numbers key) (sym back));
@@ -20,7 +20,7 @@ invariant_of-self-in-Err c =
 pub returns-in-Err-clause-err : goal.returns-in-Err-clause-err
 returns-in-Err-clause-err c =
     let whole : List Collection → Open = λ cs. record { begun = c.self.inside.begun; collections = cs } in
-    rw (← c.self.view_is) (ap whole (c.truncate.ensures ∙ ((λ i. take (c.len.ensures i) (c.in_ok-push-2.ensures.ok i)) ∙ take-append_seam c.self.inside.list _)))
+    rw (← c.self.view_is) (ap whole (c.truncate.ensures ∙ ((λ i. take (c.len-count.ensures i) (c.in_ok-push-2.ensures.ok i)) ∙ take-append_seam c.self.inside.list _)))
 
 -- ---- the collection began
 

@@ -14,14 +14,14 @@ use Rattle.table_gc.proofs.collections.Collections.tombed.Goals as goal
 
 pub invariant_of-self : goal.invariant_of-self
 invariant_of-self c =
-    let r = c.remove.result in
-    let is_r : r.number ≡ c.args.number = rw (c.as_slice.ensures, c.remove.ensures.value) at c.in-Some.ensures.found in
-    let left = c.remove.ensures.rest ∙ one_left_out number_of c.args.number 0 c.self.inside.list c.in-Some.i r c.self.invariant.numbered.rises c.remove.ensures.value is_r in
+    let r = c.remove-closed.result in
+    let is_r : r.number ≡ c.args.number = rw (c.as_slice.ensures, c.remove-closed.ensures.value) at c.in-Some.ensures.found in
+    let left = c.remove-closed.ensures.rest ∙ one_left_out number_of c.args.number 0 c.self.inside.list c.in-Some.i r c.self.invariant.numbered.rises c.remove-closed.ensures.value is_r in
     record {
       numbered = rw left (numbered_left number_of c.args.number c.self.inside.begun c.self.inside.list c.self.invariant.numbered);
-      keyed = subst (AreKeyed c.remove-2.new.keys) (sym left)
-          (keyed_left c.args.number c.in-Some.i r c.self.inside.list c.self.inside.keys c.remove-2.new.keys c.self.invariant.numbered.rises c.remove.ensures.value is_r
-          (subst (λ key. Removes key c.args.number c.self.inside.keys c.remove-2.new.keys) c.as_slice-2.ensures c.remove-2.ensures) c.self.invariant.keyed);
+      keyed = subst (AreKeyed c.remove.new.keys) (sym left)
+          (keyed_left c.args.number c.in-Some.i r c.self.inside.list c.self.inside.keys c.remove.new.keys c.self.invariant.numbered.rises c.remove-closed.ensures.value is_r
+          (subst (λ key. Removes key c.args.number c.self.inside.keys c.remove.new.keys) c.as_slice-2.ensures c.remove.ensures) c.self.invariant.keyed);
     }
 
 pub returns-then-is_closed-clause-end : goal.returns-then-is_closed-clause-end
@@ -39,10 +39,10 @@ returns-then-is_closed-clause-ok c =
     let is : v.number ≡ c.args.number = rw (c.as_slice.ensures, c.at.ensures) at c.in-Some.ensures.found in
     let found : numbered c.args.number c.args.self.now ≡ Some v = rw (← c.self.view_is) (one_found c.args.number 0 c.self.inside.list c.in-Some.i v c.self.invariant.numbered.rises c.at.ensures is) in
     let leads = c.end_of-end.ensures ∙ sym (end_found c.args.number c.args.round c.args.node c.args.newest c.args.self.now v found) in
-    let r = c.remove.result in
-    let is_r : r.number ≡ c.args.number = rw (c.as_slice.ensures, c.remove.ensures.value) at c.in-Some.ensures.found in
-    let here : whole c.remove.new.self ≡ closed c.args.number c.args.self.now = rw (← c.self.view_is)
-    (ap whole (c.remove.ensures.rest ∙ one_left_out number_of c.args.number 0 c.self.inside.list c.in-Some.i r c.self.invariant.numbered.rises c.remove.ensures.value is_r)) in
+    let r = c.remove-closed.result in
+    let is_r : r.number ≡ c.args.number = rw (c.as_slice.ensures, c.remove-closed.ensures.value) at c.in-Some.ensures.found in
+    let here : whole c.remove-closed.new.self ≡ closed c.args.number c.args.self.now = rw (← c.self.view_is)
+    (ap whole (c.remove-closed.ensures.rest ∙ one_left_out number_of c.args.number 0 c.self.inside.list c.in-Some.i r c.self.invariant.numbered.rises c.remove-closed.ensures.value is_r)) in
     here ∙ sym (answered_closed c.args.number c.args.round c.args.node c.args.newest c.args.now c.args.self.now (ap is_closed (sym leads) ∙ (sym c.is_closed.ensures ∙ c.if-is_closed.true)))
 
 -- ---- an answer that doesn't
