@@ -4,7 +4,7 @@ use Rattle.std.specs.Prelude.{nat_eq, slice_get, slice_set, remove, OnOk, OnErr}
 use Rattle.std.specs.Global.{Vec}
 use Rattle.std.specs.List.{filter, find}
 use Rattle.std.specs.Option.{is_some}
-use Rattle.std.specs.Map.{IsKeyTest, AreApart, lookup}
+use Rattle.std.specs.Map.{IsKeyTest, AreApart, KeepsOthers, lookup}
 use Rattle.std.specs.BTreeMap.{UpdatesBy, is_at}
 use Rattle.std.specs.Ordering.{nat_cmp, is_eq, eq_by_cmp}
 use Rattle.std.specs.Cmp.{Equal-is}
@@ -53,6 +53,7 @@ are_apart key other apart k h = apart_by key other k apart h (at other k) refl
 
 module _ (key : List ℕ) (old new : Keys) (w : Option (Vec ℕ)) (updates : UpdatesBy vec_cmp (λ k. slice_cmp nat_cmp key k.items) old new w) where
   after_by : (other : List ℕ) (b : Bool) → pointwise nat_eq key other ≡ b → numbers_at other new ≡ cond b (numbers_in w) (numbers_at other old)
+  unfolding KeepsOthers
   after_by other true h = ap (λ k. numbers_at k new) (sym (same_key key other h)) ∙ ap numbers_in updates.1
   after_by other false h = ap numbers_in (updates.3 (at other) (key_test other) (are_apart key other h))
 
@@ -112,7 +113,7 @@ left_by : (key : List ℕ) (n : ℕ) (x : Collection) (xs : List Collection) →
 left_by key n x xs rest true h true of-key = rw (h, of-key) (rw h rest)
 left_by key n x xs rest true h false of-key = rw (h, of-key) rest
 left_by key n x xs rest false h true of-key = rw (h, of-key) (rw (h, of-key) (ap (λ ns. x.number ∷ ns) rest))
-left_by key n x xs rest false h false of-key = rw (h, of-key) (rw of-key rest)
+left_by key n x xs rest false h false of-key = rw (h, of-key) rest
 
 filter_numbers : (key : List ℕ) (n : ℕ) (cs : List Collection) → numbers key (left_of number_of n cs) ≡ filter (λ m. not (m == n)) (numbers key cs)
 filter_numbers key n [] = refl
