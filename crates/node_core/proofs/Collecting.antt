@@ -131,13 +131,14 @@ module _ (f : Collection → Collection) (keeps : (c : Collection) → (f c).num
   abbrev altered : List Collection → List Collection
   altered cs = map (λ c. cond (c.number == n) (f c) c) cs
 
+  told_by : (c : Collection) (cs : List Collection) → filter (λ d. not (d.number == n)) (altered cs) ≡ filter (λ d. not (d.number == n)) cs → (b : Bool) → (c.number == n) ≡ b →
+      cond (not ((cond b (f c) c).number == n)) (cond b (f c) c ∷ filter (λ d. not (d.number == n)) (altered cs)) (filter (λ d. not (d.number == n)) (altered cs)) ≡ cond (not b) (c ∷ filter (λ d. not (d.number == n)) cs) (filter (λ d. not (d.number == n)) cs)
+  told_by c cs rest true h = ap (λ b. cond (not b) (f c ∷ filter (λ d. not (d.number == n)) (altered cs)) (filter (λ d. not (d.number == n)) (altered cs))) (ap (λ m. m == n) (keeps c) ∙ h) ∙ rest
+  told_by c cs rest false h = ap (λ b. cond (not b) (c ∷ filter (λ d. not (d.number == n)) (altered cs)) (filter (λ d. not (d.number == n)) (altered cs))) h ∙ ap (λ ds. c ∷ ds) rest
+
   closed_told : (cs : List Collection) → filter (λ c. not (c.number == n)) (altered cs) ≡ filter (λ c. not (c.number == n)) cs
   closed_told [] = refl
-  closed_told (c ∷ cs) = by (c.number == n) refl
-    where
-      by : (b : Bool) → (c.number == n) ≡ b → cond (not ((cond b (f c) c).number == n)) (cond b (f c) c ∷ filter (λ d. not (d.number == n)) (altered cs)) (filter (λ d. not (d.number == n)) (altered cs)) ≡ cond (not b) (c ∷ filter (λ d. not (d.number == n)) cs) (filter (λ d. not (d.number == n)) cs)
-      by true h = ap (λ b. cond (not b) (f c ∷ filter (λ d. not (d.number == n)) (altered cs)) (filter (λ d. not (d.number == n)) (altered cs))) (ap (λ m. m == n) (keeps c) ∙ h) ∙ closed_told cs
-      by false h = ap (λ b. cond (not b) (c ∷ filter (λ d. not (d.number == n)) (altered cs)) (filter (λ d. not (d.number == n)) (altered cs))) h ∙ ap (λ cs. c ∷ cs) (closed_told cs)
+  closed_told (c ∷ cs) = told_by c cs (closed_told cs) (c.number == n) refl
 
 module _ {R : Type 0} (join : R → R → R) (s : Words R) (id : ℕ) (x : Model R Layout) where
   -- the row with this key is dropped, if it is there

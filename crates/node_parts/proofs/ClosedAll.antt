@@ -35,17 +35,17 @@ module _ (stays : Collection → Bool) where
       let rest = lower low x.number (gone xs) rises.0 (all_above x.number xs rises.1) in
       elim (stays x) as (λ b. AllByRecursion (λ n. low < n) (map number_of (cond (not b) (x ∷ filter (λ c. not (stays c)) xs) (filter (λ c. not (stays c)) xs)))) [ true ↦ rest | false ↦ (rises.0, rest) ]
 
+  gone_by : (x : Collection) (xs : List Collection) → Rises x.number (map number_of xs) → left_all (gone xs) xs ≡ filter stays xs →
+      (b : Bool) → stays x ≡ b → left_all (map number_of (cond (not b) (x ∷ filter (λ c. not (stays c)) xs) (filter (λ c. not (stays c)) xs))) (x ∷ xs) ≡ cond b (x ∷ filter stays xs) (filter stays xs)
+  gone_by x xs rises rest true h = stays_first x xs (gone xs) (all_above x.number xs rises) ∙ ap (λ l. x ∷ l) rest
+  gone_by x xs rises rest false h =
+      ap (λ b. left_all (gone xs) (cond (not b) (x ∷ left_of number_of x.number xs) (left_of number_of x.number xs))) (eq-eqb x.number x.number refl)
+      ∙ (ap (left_all (gone xs)) (none_left_out number_of x.number xs (none_past number_of x.number x.number xs (omega arith) rises))
+      ∙ rest)
+
   left_gone : (low : ℕ) (cs : List Collection) → Rises low (map number_of cs) → left_all (gone cs) cs ≡ filter stays cs
   left_gone low [] rises = refl
-  left_gone low (x ∷ xs) rises = by_stay (stays x) refl
-    where
-      by_stay : (b : Bool) → stays x ≡ b → left_all (map number_of (cond (not (stays x)) (x ∷ filter (λ c. not (stays c)) xs) (filter (λ c. not (stays c)) xs))) (x ∷ xs) ≡ cond (stays x) (x ∷ filter stays xs) (filter stays xs)
-      by_stay true h = rw h (stays_first x xs (gone xs) (all_above x.number xs rises.1) ∙ ap (λ l. x ∷ l) (left_gone x.number xs rises.1))
-      by_stay false h =
-          rw h
-          (ap (λ b. left_all (gone xs) (cond (not b) (x ∷ left_of number_of x.number xs) (left_of number_of x.number xs))) (eq-eqb x.number x.number refl)
-          ∙ (ap (left_all (gone xs)) (none_left_out number_of x.number xs (none_past number_of x.number x.number xs (omega arith) rises.1))
-          ∙ left_gone x.number xs rises.1))
+  left_gone low (x ∷ xs) rises = gone_by x xs rises.1 (left_gone x.number xs rises.1) (stays x) refl
 
   -- those that don't stay are closed by their numbers
   pub closes_gone : (gc : Open) → IsNumbered gc.begun gc.collections → closed_all (gone gc.collections) gc ≡ record gc { collections = filter stays gc.collections }

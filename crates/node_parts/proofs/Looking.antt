@@ -47,42 +47,47 @@ module _ (key : List ℕ) where
       ap (λ b. is_some (cond b (Some (cond (x.number == n) (f x) x)) (find (is_of key) (map (λ c. cond (c.number == n) (f c) c) xs)))) same
       ∙ elim (is_of key x) as (λ b. is_some (cond b (Some (cond (x.number == n) (f x) x)) (find (is_of key) (map (λ c. cond (c.number == n) (f c) c) xs))) ≡ is_some (cond b (Some x) (find (is_of key) xs))) [ true ↦ refl | false ↦ has_changed f keeps n xs ]
 
+  left_by : (test : Collection → Bool) (x : Collection) (xs : List Collection) → (is_of key x ≡ true → test x ≡ true) → has key (filter test xs) ≡ has key xs →
+      (b : Bool) → is_of key x ≡ b → (t : Bool) → test x ≡ t → has key (cond t (x ∷ filter test xs) (filter test xs)) ≡ is_some (cond b (Some x) (find (is_of key) xs))
+  left_by test x xs passes rest true h true t = ap (λ b. is_some (cond b (Some x) (find (is_of key) (filter test xs)))) h
+  left_by test x xs passes rest true h false t = absurd (both_ways (test x) t (passes h))
+  left_by test x xs passes rest false h true t = ap (λ b. is_some (cond b (Some x) (find (is_of key) (filter test xs)))) h ∙ rest
+  left_by test x xs passes rest false h false t = rest
+
   -- what is left out has another key
   has_left : (test : Collection → Bool) (cs : List Collection) → AllByRecursion (λ c. is_of key c ≡ true → test c ≡ true) cs → has key (filter test cs) ≡ has key cs
   has_left test [] all = refl
-  has_left test (x ∷ xs) all = left_by (is_of key x) refl (test x) refl
-    where
-      left_by : (b : Bool) → is_of key x ≡ b → (t : Bool) → test x ≡ t → has key (cond t (x ∷ filter test xs) (filter test xs)) ≡ is_some (cond b (Some x) (find (is_of key) xs))
-      left_by true h true passes = ap (λ b. is_some (cond b (Some x) (find (is_of key) (filter test xs)))) h
-      left_by true h false fails = absurd (both_ways (test x) fails (all.0 h))
-      left_by false h true passes = ap (λ b. is_some (cond b (Some x) (find (is_of key) (filter test xs)))) h ∙ has_left test xs all.1
-      left_by false h false fails = has_left test xs all.1
+  has_left test (x ∷ xs) all = left_by test x xs all.0 (has_left test xs all.1) (is_of key x) refl (test x) refl
 
 -- the collection that a key finds is the only one with its number
 none_with : (key : List ℕ) (n : ℕ) (cs : List Collection) → NoneHas number_of n cs → AllByRecursion (λ c. is_of key c ≡ true → not (c.number == n) ≡ true) cs
 none_with key n [] none = tt
 none_with key n (x ∷ xs) none = ((λ h. ap not none.0), none_with key n xs none.1)
 
+above_by : (q : List ℕ) (low : ℕ) (x : Collection) (xs : List Collection) (c : Collection) → low < x.number → (find (is_of q) xs ≡ Some c → x.number < c.number) → (b : Bool) → cond b (Some x) (find (is_of q) xs) ≡ Some c → low < c.number
+above_by q low x xs c above rest true is = let one : x.number ≡ c.number = ap number_of (same_Some x c is) in omega (arith, above, one)
+above_by q low x xs c above rest false is = let later = rest is in omega (arith, above, later)
+
 above_found : (q : List ℕ) (low : ℕ) (cs : List Collection) (c : Collection) → Rises low (map number_of cs) → find (is_of q) cs ≡ Some c → low < c.number
 above_found q low [] c rises is = let no : {P : Type 0} → None ≡ Some c → P = λ e. cc in no is
-above_found q low (x ∷ xs) c rises is = found_by (is_of q x) is
-  where
-    found_by : (b : Bool) → cond b (Some x) (find (is_of q) xs) ≡ Some c → low < c.number
-    found_by true is = let one : x.number ≡ c.number = ap number_of (same_Some x c is) in omega (arith, rises.0, one)
-    found_by false is = let later = above_found q x.number xs c rises.1 is in omega (arith, rises.0, later)
+above_found q low (x ∷ xs) c rises is = above_by q low x xs c rises.0 (above_found q x.number xs c rises.1) (is_of q x) is
 
-only_one : (q key : List ℕ) (low : ℕ) (cs : List Collection) (c : Collection) → Rises low (map number_of cs) → find (is_of q) cs ≡ Some c → pointwise nat_eq q key ≡ false → AllByRecursion (λ d. is_of key d ≡ true → not (d.number == c.number) ≡ true) cs
+abbrev OthersApart : List ℕ → Collection → List Collection → Type 0
+OthersApart key c cs = AllByRecursion (λ d. is_of key d ≡ true → not (d.number == c.number) ≡ true) cs
+
+one_by : (q key : List ℕ) (x : Collection) (xs : List Collection) (c : Collection) → Rises x.number (map number_of xs) → pointwise nat_eq q key ≡ false → (find (is_of q) xs ≡ Some c → OthersApart key c xs) →
+    (b : Bool) → is_of q x ≡ b → cond b (Some x) (find (is_of q) xs) ≡ Some c → OthersApart key c (x ∷ xs)
+one_by q key x xs c rises apart rest true h is =
+    let one = same_Some x c is in
+    let key-is : q ≡ x.key = sym (same_key x.key q h) in (
+      (λ of_key. absurd (both_ways (pointwise nat_eq x.key key) (ap (λ k. pointwise nat_eq k key) (sym key-is) ∙ apart) of_key)),
+      subst (λ n. AllByRecursion (λ d. is_of key d ≡ true → not (d.number == n) ≡ true) xs) (ap number_of one) (none_with key x.number xs (none_past number_of x.number x.number xs (omega arith) rises)),
+    )
+one_by q key x xs c rises apart rest false h is = ((λ of_key. ap not (apart_above x.number c.number (above_found q x.number xs c rises is))), rest is)
+
+only_one : (q key : List ℕ) (low : ℕ) (cs : List Collection) (c : Collection) → Rises low (map number_of cs) → find (is_of q) cs ≡ Some c → pointwise nat_eq q key ≡ false → OthersApart key c cs
 only_one q key low [] c rises is apart = tt
-only_one q key low (x ∷ xs) c rises is apart = one_by (is_of q x) refl is
-  where
-    one_by : (b : Bool) → is_of q x ≡ b → cond b (Some x) (find (is_of q) xs) ≡ Some c → (is_of key x ≡ true → not (x.number == c.number) ≡ true) × AllByRecursion (λ d. is_of key d ≡ true → not (d.number == c.number) ≡ true) xs
-    one_by true h is =
-        let one = same_Some x c is in
-        let key-is : q ≡ x.key = sym (same_key x.key q h) in (
-          (λ of_key. absurd (both_ways (pointwise nat_eq x.key key) (ap (λ k. pointwise nat_eq k key) (sym key-is) ∙ apart) of_key)),
-          subst (λ n. AllByRecursion (λ d. is_of key d ≡ true → not (d.number == n) ≡ true) xs) (ap number_of one) (none_with key x.number xs (none_past number_of x.number x.number xs (omega arith) rises.1)),
-        )
-    one_by false h is = ((λ of_key. ap not (apart_above x.number c.number (above_found q x.number xs c rises.1 is))), only_one q key x.number xs c rises.1 is apart)
+only_one q key low (x ∷ xs) c rises is apart = one_by q key x xs c rises.1 apart (λ later. only_one q key x.number xs c rises.1 later apart) (is_of q x) refl is
 
 -- ---- what is done about one row
 
@@ -199,14 +204,16 @@ module _ {R : Type 0} (join : R → R → R) (s : Words R) (id now version : ℕ
             longer_by true h = let same = ap length (same_key key (0 ∷ key) h) in absurd (omega (arith, same))
             longer_by false h = refl
 
+    looked_by : (r : R) (rs : List R) (t : Progress R Layout) → has (s.key r) t.gc.collections ≡ has (s.key r) gc.collections →
+        about_all join s layouts id now version (filter is_looked_at rs) (stepped r t) ≡ about_all join s layouts id now version rs (stepped r t) → about_all join s layouts id now version (filter is_looked_at rs) t ≡ about_all join s layouts id now version rs t →
+        (b : Bool) → is_looked_at r ≡ b → about_all join s layouts id now version (cond b (r ∷ filter is_looked_at rs) (filter is_looked_at rs)) t ≡ about_all join s layouts id now version rs (stepped r t)
+    looked_by r rs t same after before true h = after
+    looked_by r rs t same after before false h = before ∙ ap (about_all join s layouts id now version rs) (sym (passed r t same h))
+
     pub about_looked : (rs : List R) (t : Progress R Layout) → AllApart rs → IsNumbered t.gc.begun t.gc.collections → HaveSame t.gc rs → about_all join s layouts id now version (filter is_looked_at rs) t ≡ about_all join s layouts id now version rs t
     about_looked [] t apart numbered same = refl
-    about_looked (r ∷ rs) t apart numbered same = looked_by (is_looked_at r) refl
-      where
-        looked_by : (b : Bool) → is_looked_at r ≡ b → about_all join s layouts id now version (cond b (r ∷ filter is_looked_at rs) (filter is_looked_at rs)) t ≡ about_all join s layouts id now version rs (stepped r t)
-        looked_by true h = about_looked rs (stepped r t) apart.1 (any_numbered r t numbered) (same_after r t numbered rs apart.0 same.1)
-        looked_by false h =
-            about_looked rs t apart.1 numbered same.1 ∙ ap (about_all join s layouts id now version rs) (sym (passed r t same.0 h))
+    about_looked (r ∷ rs) t apart numbered same =
+        looked_by r rs t same.0 (about_looked rs (stepped r t) apart.1 (any_numbered r t numbered) (same_after r t numbered rs apart.0 same.1)) (about_looked rs t apart.1 numbered same.1) (is_looked_at r) refl
 
     pub itself : (rs : List R) → HaveSame gc rs
     itself [] = tt

@@ -35,21 +35,24 @@ module _ {R : Type 0} (join : R → R → R) (s : Words R) (table : ℕ) (key : 
   stay_above [] above = refl
   stay_above (x ∷ xs) above = ap (λ o. cond (not (is_eq o)) (x ∷ others_of xs) (others_of xs)) above.0 ∙ ap (λ l. x ∷ l) (stay_above xs above.1)
 
+  count_at : (hash : List ℕ) (x : R) (xs : List R) → Above s (place s x) xs → (is_at s table key x ≡ true → s.live_block x ≡ None) → (is_at s table key x ≡ false → count_by (needs join s hash) (others_of xs) ≡ count_by (needs join s hash) xs) →
+      (b : Bool) → is_at s table key x ≡ b → count_by (needs join s hash) (cond (not b) (x ∷ others_of xs) (others_of xs)) ≡ count_by (needs join s hash) (x ∷ xs)
+  count_at hash x xs above none rest true h =
+      let at : (table, key) ≡ place s x = place_identical (table, key) (place s x) ((Equal-is _).0 h) in
+      let same : others_of xs ≡ xs = stay_above xs (subst (λ q. Above s q xs) (sym at) above) in
+      let here : one (needs join s hash x) ≡ 0 = ap (λ o. one (is_block hash o)) (none h) in
+      ap (count_by (needs join s hash)) same ∙ omega (arith, here, count_cons (needs join s hash) x xs)
+  count_at hash x xs above none rest false h =
+      let later = rest h in
+      omega (arith, later, count_cons (needs join s hash) x xs, count_cons (needs join s hash) x (others_of xs))
+
   -- where the row needs no block as many need one without it
   counts_without : (hash : List ℕ) (xs : List R) → Ascends s xs → ((r : R) → find_row s table key xs ≡ Some r → s.live_block r ≡ None) → count_by (needs join s hash) (others_of xs) ≡ count_by (needs join s hash) xs
   counts_without hash [] a none = refl
-  counts_without hash (x ∷ xs) a none = count_at (is_at s table key x) refl
-    where
-      count_at : (b : Bool) → is_at s table key x ≡ b → count_by (needs join s hash) (cond (not b) (x ∷ others_of xs) (others_of xs)) ≡ count_by (needs join s hash) (x ∷ xs)
-      count_at true h =
-          let at : (table, key) ≡ place s x = place_identical (table, key) (place s x) ((Equal-is _).0 h) in
-          let same : others_of xs ≡ xs = stay_above xs (subst (λ q. Above s q xs) (sym at) a.0) in
-          let live : s.live_block x ≡ None = none x (ap (λ b. cond b (Some x) (find_row s table key xs)) h) in
-          let here : one (needs join s hash x) ≡ 0 = ap (λ o. one (is_block hash o)) live in
-          ap (count_by (needs join s hash)) same ∙ omega (arith, here, count_cons (needs join s hash) x xs)
-      count_at false h =
-          let rest = counts_without hash xs a.1 (λ r found. none r (ap (λ b. cond b (Some x) (find_row s table key xs)) h ∙ found)) in
-          omega (arith, rest, count_cons (needs join s hash) x xs, count_cons (needs join s hash) x (others_of xs))
+  counts_without hash (x ∷ xs) a none =
+      count_at hash x xs a.0 (λ h. none x (ap (λ b. cond b (Some x) (find_row s table key xs)) h))
+      (λ h. counts_without hash xs a.1 (λ r found. none r (ap (λ b. cond b (Some x) (find_row s table key xs)) h ∙ found)))
+      (is_at s table key x) refl
 
   all_others : (xs : List R) → AllByRecursion (λ r. IsTrue (s.is_proper r)) xs → AllByRecursion (λ r. IsTrue (s.is_proper r)) (others_of xs)
   all_others [] all = tt

@@ -112,7 +112,7 @@ left_by : (key : List ℕ) (n : ℕ) (x : Collection) (xs : List Collection) →
     numbers key (cond (not (x.number == n)) (x ∷ left_of number_of n xs) (left_of number_of n xs)) ≡ filter (λ m. not (m == n)) (map number_of (cond (is_of key x) (x ∷ filter (is_of key) xs) (filter (is_of key) xs)))
 left_by key n x xs rest true h true of-key = rw (h, of-key) (rw h rest)
 left_by key n x xs rest true h false of-key = rw (h, of-key) rest
-left_by key n x xs rest false h true of-key = rw (h, of-key) (rw (h, of-key) (ap (λ ns. x.number ∷ ns) rest))
+left_by key n x xs rest false h true of-key = rw (h, of-key) (rw h (ap (λ ns. x.number ∷ ns) rest))
 left_by key n x xs rest false h false of-key = rw (h, of-key) rest
 
 filter_numbers : (key : List ℕ) (n : ℕ) (cs : List Collection) → numbers key (left_of number_of n cs) ≡ filter (λ m. not (m == n)) (numbers key cs)

@@ -18,7 +18,7 @@ returns-in_err-push-clause-err c =
     let later = c.get_mut.follows.lender c.push.new.self in
     let same : (other : List ℕ) → numbers_at other later ≡ numbers_at other c.args.keys.now =
         numbers_same c.as_slice.result.now c.args.keys.now later (Some c.push.new.self) ((c.get_mut.follows.holds c.push.new.self).3 (ap is_some there)) (c.in_err-push.ensures.items ∙ ap numbers_in (sym there)) in
-    on_err c.from_residual-in_err-push.result same
+    on_err c.from_residual.result same
 
 pub returns-in-Some-clause-ok : goal.returns-in-Some-clause-ok
 returns-in-Some-clause-ok c =
@@ -48,4 +48,4 @@ returns-clause-ok c =
     let none_yet : numbers_at c.args.key.items mid ≡ [] = ap (numbers_at c.args.key.items) c.get_mut.follows.holds-at-none ∙ none in
     subst (λ m. Adds c.args.key.items c.args.number m c.insert.new.self) c.get_mut.follows.holds-at-none
     (numbers_changed c.args.key.items mid c.insert.new.self (Some c.push-2.new.self) c.in_ok-insert.ensures.updates
-    (λ ns. ns ++ c.args.number ∷ []) (c.in_ok-push-2.ensures.items ∙ ap (λ ns. ns ++ c.args.number ∷ []) (c.new.ensures.items ∙ sym none_yet)))
+    (λ ns. ns ++ c.args.number ∷ []) (c.in_ok-push-2.ensures.items ∙ ap (λ ns. ns ++ c.args.number ∷ []) (c.new-numbers.ensures.items ∙ sym none_yet)))
