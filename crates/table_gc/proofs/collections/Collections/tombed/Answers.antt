@@ -21,7 +21,7 @@ invariant_of-self c =
       numbered = rw left (numbered_left number_of c.args.number c.self.inside.begun c.self.inside.list c.self.invariant.numbered);
       keyed = subst (AreKeyed c.remove.new.keys) (sym left)
           (keyed_left c.args.number c.in-Some.i r c.self.inside.list c.self.inside.keys c.remove.new.keys c.self.invariant.numbered.rises c.remove-closed.ensures.value is_r
-          (subst (λ key. Removes key c.args.number c.self.inside.keys c.remove.new.keys) c.as_slice-2.ensures c.remove.ensures) c.self.invariant.keyed);
+          (subst (λ key. Removes key c.args.number c.self.inside.keys c.remove.new.keys) c.as_slice-then-is_closed.ensures c.remove.ensures) c.self.invariant.keyed);
     }
 
 pub returns-then-is_closed-clause-end : goal.returns-then-is_closed-clause-end
