@@ -1,5 +1,5 @@
 //! How a node collects delete markers, and helps others to.
-ghost use Rattle.std.specs.Prelude.{◌≡◌, ◌⊎◌, ◌×◌, ◌==◌, true, false, List, None, IfOk, OnOk};
+ghost use Rattle.std.specs.Prelude.{◌≡◌, ◌⊎◌, ◌==◌, true, false, List, None, IfOk, OnOk};
 ghost use Rattle.crdt_core.specs.Outcomes.{OnlyWant, WantOr};
 ghost use Rattle.view_model.specs.Layouts.{reading};
 ghost use Rattle.view_model.specs.View.{newest};

@@ -1,5 +1,5 @@
 //! How a node collects its delete markers.
-ghost use Rattle.std.specs.Prelude.{◌≡◌, ◌⊎◌, ◌×◌, ◌+◌, ◌-◌, ◌^◌, ◌≤◌, ◌<◌, ◌==◌, ◌&&◌, ◌||◌, ◌++◌, ◌∷◌, [], ℕ, List, true, cond, is_some, nat_lt, Some, None, IsTrue, IfOk, IfSome, IfNone, OnOk};
+ghost use Rattle.std.specs.Prelude.{◌≡◌, ◌⊎◌, ◌+◌, ◌-◌, ◌^◌, ◌≤◌, ◌<◌, ◌==◌, ◌&&◌, ◌||◌, ◌++◌, ◌∷◌, [], ℕ, List, true, cond, is_some, nat_lt, Some, None, IsTrue, IfOk, IfSome, IfNone, OnOk};
 ghost use Rattle.crdt_core.specs.Outcomes.{OnlyWant, WantOr};
 ghost use Rattle.wire_messages.specs.declared.message.Message.TheVariants.{Tomb};
 ghost use Rattle.gc_model.specs.Collecting.{IsNumbered, changed, in_second, is_ready, keyed, numbered};

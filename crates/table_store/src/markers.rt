@@ -1,5 +1,5 @@
 //! The keys of rows with nothing but a delete marker, by the markers' timestamps.
-ghost use Rattle.std.specs.Prelude.{◌≡◌, ◌&&◌, ◌==◌, ◌×◌, ℕ, List, true, false, Some, OnOk, OnErr};
+ghost use Rattle.std.specs.Prelude.{◌≡◌, ◌&&◌, ◌==◌, ℕ, List, true, false, Some, OnOk, OnErr};
 ghost use Rattle.crdt_core.specs.Outcomes.{OnlyWant};
 ghost use Rattle.table_store.specs.Index.{has_key};
 ghost use Rattle.table_store.specs.Shelf.{shelf_find};
