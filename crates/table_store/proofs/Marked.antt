@@ -120,7 +120,7 @@ module _ {R Z : Type 0} (s : Words R) where
   place_by key (e ∷ es) row is = at_place key e es row (place_by key es row) (is_eq (slice_cmp nat_cmp key e.0.items)) is
 
   module _ (limit : ℕ) (markers : Markers) (rows : List (Vec ℕ Z × Placed R)) (all : AllMarked s markers rows) where
-    noted_by : (key : List ℕ) (row : R) → shelf_find key rows ≡ Some row → (o : Option (ℕ × ℕ)) → s.marker row ≡ o → is_by s limit o ≡ true →
+    noted_by : (key : List ℕ) (row : R) → shelf_find key rows ≡ Some row → (o : Option (ℕ × ℕ)) → s.marker row ≡ o → is_by limit o ≡ true →
         noted_in key (entries_between nat_cmp Unbounded (Included limit) markers.entries) ≡ true
     noted_by key row found None marker low = absurd (let no : false ≡ true = low in cc)
     noted_by key row found (Some version) marker low =

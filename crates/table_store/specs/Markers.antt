@@ -34,15 +34,15 @@ OthersStay key old new = (ts : ℕ) (other : List ℕ) → is_eq (slice_cmp nat_
 abbrev pub RestStays : ℕ → List ℕ → Markers → Markers → Type 0
 RestStays ts key old new = (t : ℕ) (other : List ℕ) → ((ts == t) && is_eq (slice_cmp nat_cmp key other)) ≡ false → marked_at t other old ≡ true → marked_at t other new ≡ true
 
+-- the delete marker's timestamp is at most this, where there is nothing but one
+abbrev pub is_by : ℕ → Option (ℕ × ℕ) → Bool
+is_by limit None = false
+is_by limit (Some version) = leb version.0 limit
+
 module _ {R : Type 0} (s : Words R) where
   -- each row with nothing but a delete marker is noted at its timestamp
   abbrev pub AllMarked : {Z : Type 0} → Markers → List (Vec ℕ Z × Placed R) → Type 0
   AllMarked markers rows = (key : List ℕ) (placed : Placed R) (version : ℕ × ℕ) → placed_at key rows ≡ Some placed → s.marker placed.row ≡ Some version → marked_at version.0 key markers ≡ true
-
-  -- the delete marker's timestamp is at most this, where there is nothing but one
-  abbrev pub is_by : ℕ → Option (ℕ × ℕ) → Bool
-  is_by limit None = false
-  is_by limit (Some version) = leb version.0 limit
 
   -- there is a row, and it has nothing but such a delete marker
   abbrev pub is_marked : ℕ → Option R → Bool
