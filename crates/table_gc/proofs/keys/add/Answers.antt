@@ -17,7 +17,7 @@ returns-in_err-push-clause-err c =
     let there = sym c.in-Some.ensures.value in
     let later = c.get_mut.follows.lender c.push.new.self in
     let same : (other : List ℕ) → numbers_at other later ≡ numbers_at other c.args.keys.now =
-        numbers_same c.as_slice.result.now c.args.keys.now later (Some c.push.new.self) ((c.get_mut.follows.holds c.push.new.self).3 (ap is_some there)) (c.in_err-push.ensures.items ∙ ap numbers_in (sym there)) in
+    numbers_same c.as_slice.result.now c.args.keys.now later (Some c.push.new.self) ((c.get_mut.follows.holds c.push.new.self).3 (ap is_some there)) (c.in_err-push.ensures.items ∙ ap numbers_in (sym there)) in
     on_err c.from_residual.result same
 
 pub returns-in-Some-clause-ok : goal.returns-in-Some-clause-ok
@@ -38,7 +38,7 @@ returns-in_err-push-2-clause-err c =
 pub returns-in_err-insert-clause-err : goal.returns-in_err-insert-clause-err
 returns-in_err-insert-clause-err c =
     let same : (other : List ℕ) → numbers_at other c.insert.new.self ≡ numbers_at other c.args.keys.now =
-        λ other. ap (λ es. numbers_in (lookup (is_at (λ (k : Vec ℕ). slice_cmp nat_cmp other k.items)) es)) c.in_err-insert.ensures.err ∙ ap (numbers_at other) c.get_mut.follows.holds-at-none in
+    λ other. ap (λ es. numbers_in (lookup (is_at (λ (k : Vec ℕ). slice_cmp nat_cmp other k.items)) es)) c.in_err-insert.ensures.err ∙ ap (numbers_at other) c.get_mut.follows.holds-at-none in
     on_err c.from_residual-in_err-insert.result same
 
 pub returns-clause-ok : goal.returns-clause-ok
