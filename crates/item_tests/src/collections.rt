@@ -138,3 +138,23 @@ fn collections_are_found_by_key_until_they_are_closed(rt: HostRuntime) -> Result
     assert_eq!(rt; numbers_after_clear(&mut open, alloc)?, ((0, 0), 3));
     Ok(())
 }
+
+// The numbers of the first open collection with key "k", with two of them, after one is closed, and after both are.
+fn numbers_with_one_key(open: &mut Collections, alloc: Global) -> Result<(u64, u64, u64), Fail> {
+    begun(open, alloc, b"k")?;
+    let first = number_of(open, b"k");
+    open.close(2);
+    let second = number_of(open, b"k");
+    open.close(3);
+    Ok((first, second, number_of(open, b"k")))
+}
+
+#[test]
+fn two_collections_with_one_key_are_found_one_after_the_other(rt: HostRuntime) -> Result<(), Fail> {
+    let alloc = rt.alloc();
+    let mut open = with_two(alloc)?;
+    assert_eq!(rt; numbers_with_one_key(&mut open, alloc)?, (2, 3, 0));
+    assert!(rt; open.numbered(1).is_some());
+    assert!(rt; open.numbered(2).is_none());
+    Ok(())
+}

@@ -80,7 +80,13 @@ pub fn end_of(collection: &Collection, round: u8, node: u8, newest: u32) -> GcEn
 }
 
 /// Takes an answer that doesn't close the collection. One of another round changes nothing.
-pub fn tell(collection: &mut Collection, round: u8, node: u8, newest: u32, now: u64) -> Result<(), Memory>
+pub fn tell(
+    collection: &mut Collection,
+    round: u8,
+    node: u8,
+    newest: u32,
+    now: u64,
+) -> Result<(), Memory>
     ensures ok { OnOk result (collection.new ≡ told round node newest now collection.old) }
     ensures err { OnErr result (collection.new ≡ collection.old) }
     ensures want { OnlyWant result }
@@ -136,6 +142,8 @@ pub fn missing(collection: &Collection, alloc: Global) -> Result<Vec<u8>, Memory
     ensures want { OnlyWant result }
 {
     let nodes = [1, 2, 3, 4, 5, 6, 7, 8, 9, 10, 11, 12, 13, 14, 15, 16];
-    let waited = nodes.iter().filter(|node| !has_confirmed(collection, **node));
+    let waited = nodes
+        .iter()
+        .filter(|node| !has_confirmed(collection, **node));
     Ok(waited.map(|node| *node).collect(alloc)?)
 }
