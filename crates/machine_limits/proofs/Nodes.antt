@@ -689,7 +689,6 @@ module _ {R : Type 0} {join : R → R → R} {s : Words R} {P : R → Type 0} {w
           let rounds = f.rounds in
           parts_did (record x { rounds = suc x.rounds; mending = Some (record { number = suc x.rounds; walks = walks_of join s x (other_nodes join s layouts n) (parts_of join s layouts n x l l) }) }) (suc x.rounds) (other_nodes join s layouts n) (parts_of join s layouts n x l l)
           (record { counted = now_fits.counted; listed = f.listed; small = f.small; rounds = omega arith; phases = now_fits.phases; blocks = f.blocks; collections = f.collections; round = f.round }) (parts_are join s n x l l h h) (λ part low. let a = filter_fewer (λ m. not (m == n)) part.set in omega arith)
-
       acts_fit now Gather = collects_fit now
 
       -- ---- phases
