@@ -14,7 +14,7 @@ use Rattle.std.specs.Cmp.{Equal-is}
 use Rattle.std.specs.Cmp.Lexicographic.{slice_cmp}
 use Rattle.std.specs.declared.cmp.Ordering.{Ordering}
 use Rattle.std.specs.declared.cmp.Ordering.TheVariants.{Less, Equal, Greater}
-use Rattle.std.specs.declared.ops.range.Bound.TheVariants.{Included, Unbounded}
+use Rattle.std.specs.declared.ops.Bound.TheVariants.{Included, Unbounded}
 use Rattle.crdt_core.specs.IdentityLaws.{slice_identical, nat_identical}
 use Rattle.table_schema.specs.Words.{Words}
 use Rattle.table_store.specs.declared.shelf.Placed.{Placed}

@@ -142,6 +142,15 @@ module _ {R Z : Type 0} (s : Words R) (first second third : List (Vec ℕ Z × P
 
 -- ---- without the row of a table and key
 
+module _ {R : Type 0} (s : Words R) (n : ℕ) where
+  other_table : (m : ℕ) (key : List ℕ) (r : R) → is_eq (nat_cmp m n) ≡ false → s.table r ≡ n → is_at s m key r ≡ false
+  other_table m key r apart is = ap (λ t. is_eq (ordering_then (nat_cmp m t) (slice_cmp nat_cmp key (s.key r)))) is ∙ then_apart (nat_cmp m n) apart
+    where
+      then_apart : (o : Ordering) → is_eq o ≡ false → is_eq (ordering_then o (slice_cmp nat_cmp key (s.key r))) ≡ false
+      then_apart Less h = refl
+      then_apart Equal h = cc
+      then_apart Greater h = refl
+
 module _ {R Z : Type 0} (s : Words R) (n : ℕ) where
   row_here : (key : List ℕ) (e : Vec ℕ Z × Placed R) → IsPlaced s n e → is_at s n key e.1.row ≡ is_eq (slice_cmp nat_cmp key e.0.items)
   row_here key e placed = (λ i. is_eq (place_cmp (n, key) (placed.table_is i, sym placed.key_is i))) ∙ ap (λ o. is_eq (ordering_then o (slice_cmp nat_cmp key e.0.items))) (tied_itself nat_cmp_total n)
@@ -158,20 +167,12 @@ module _ {R Z : Type 0} (s : Words R) (n : ℕ) where
         | false ↦ ap (λ l. e.1.row ∷ l) rest
       ]
 
-  other_table : (m : ℕ) (key : List ℕ) (r : R) → is_eq (nat_cmp m n) ≡ false → s.table r ≡ n → is_at s m key r ≡ false
-  other_table m key r apart is = ap (λ t. is_eq (ordering_then (nat_cmp m t) (slice_cmp nat_cmp key (s.key r)))) is ∙ then_apart (nat_cmp m n) apart
-    where
-      then_apart : (o : Ordering) → is_eq o ≡ false → is_eq (ordering_then o (slice_cmp nat_cmp key (s.key r))) ≡ false
-      then_apart Less h = refl
-      then_apart Equal h = cc
-      then_apart Greater h = refl
-
   -- of the others none does
   pub stay_elsewhere : (m : ℕ) (key : List ℕ) (es : List (Vec ℕ Z × Placed R)) → is_eq (nat_cmp m n) ≡ false → AllPlaced s n es → filter (λ r. not (is_at s m key r)) (shelf_rows es) ≡ shelf_rows es
   stay_elsewhere m key [] apart all = refl
   stay_elsewhere m key (e ∷ es) apart all =
       let placed = All-head (IsPlaced s n) e es all in
-      ap (λ b. cond (not b) (e.1.row ∷ filter (λ r. not (is_at s m key r)) (shelf_rows es)) (filter (λ r. not (is_at s m key r)) (shelf_rows es))) (other_table m key e.1.row apart placed.table_is)
+      ap (λ b. cond (not b) (e.1.row ∷ filter (λ r. not (is_at s m key r)) (shelf_rows es)) (filter (λ r. not (is_at s m key r)) (shelf_rows es))) (other_table s n m key e.1.row apart placed.table_is)
       ∙ ap (λ l. e.1.row ∷ l) (stay_elsewhere m key es apart (All-tail (IsPlaced s n) e es all))
 
   pub gone_placed : (key : List ℕ) (es : List (Vec ℕ Z × Placed R)) → AllPlaced s n es → AllPlaced s n (filter (λ e. not (is_eq (slice_cmp nat_cmp key e.0.items))) es)

@@ -22,5 +22,5 @@ returns-clause-adds g c other =
     sym (walked_all had test)
     ∙ (ap (λ es. had || (noted_in other es && test)) (sym c.in-None.ensures.steps.0)
     ∙ (c.loop-noted.invariant other
-    ∙ (ap (λ es. has_key other c.args.keys.now.keys || (noted_in other es && test)) (c.into_iter-noted-iterator.ensures.into_iter_gives ∙ c.range.ensures.between tt)
+    ∙ (ap (λ es. has_key other c.args.keys.now.keys || (noted_in other es && test)) (c.into_iter-noted-iterator.ensures.into_iter_gives ∙ c.range-noted-items.ensures.between tt)
     ∙ ap (λ b. has_key other c.args.keys.now.keys || b) (all_noted g.S.Schema.words c.args.limit c.args.shelf.now.markers c.args.shelf.now.rows.entries c.requires.marked other))))

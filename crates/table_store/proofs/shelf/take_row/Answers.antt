@@ -8,7 +8,7 @@ pub returns-clause-row : goal.returns-clause-row
 returns-clause-row g c = sym (row_there c.args.key.now c.in_ok-placed.placed c.args.rows.now.entries (sym c.in_ok-placed.ensures.value))
 
 pub returns-in_err-placed-clause-row : goal.returns-in_err-placed-clause-row
-returns-in_err-placed-clause-row g c = sym (none_there c.args.key.now c.args.rows.now.entries (sym c.in_err-placed.ensures.value))
+returns-in_err-placed-clause-row g c = c.from_residual.ensures ∙ sym (none_there c.args.key.now c.args.rows.now.entries (sym c.in_err-placed.ensures.value))
 
 pub returns-clause-marked : goal.returns-clause-marked
 returns-clause-marked g c all =
