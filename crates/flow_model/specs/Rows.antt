@@ -58,6 +58,10 @@ object_row name version state is_sized = rows.Object (record {
 abbrev pub uploading : Name → Version → AnyRow
 uploading name version = object_row name version Uploading refl
 
+-- the upload of this version was given up
+abbrev pub aborted : Name → Version → AnyRow
+aborted name version = object_row name version Aborted refl
+
 -- the object is deleted since this version
 abbrev pub marker : Name → Version → AnyRow
 marker name version = object_row name version (Complete Marker) refl
@@ -73,19 +77,32 @@ in_blocks name version block c = object_row name version (Complete (Blocks (meta
 -- the row that says that the version is complete
 abbrev pub complete : Name → Version → ℕ → Wish → AnyRow
 complete name version block wish.Marker = marker name version
+complete name version block (wish.Stream coming) = uploading name version  -- no bytes are known of it yet
 complete name version block (wish.Content c) = elim (is_long c.body) [ true ↦ in_blocks name version block c | false ↦ inline name version c ]
+
+-- the version's row with the block of these bytes alone, which begins at this offset
+abbrev pub version_row_at : ℕ → ℕ → List ℕ → AnyRow
+version_row_at id offset bytes = rows.Version (record {
+  id = id;
+  blocks = Present (map_single (record { part = 1; offset = offset }) (record { 0 = record { hash = digest_of bytes; size = length bytes } }));
+})
+
+-- the live reference of the version to the block of these bytes
+abbrev pub reference_to : ℕ → List ℕ → AnyRow
+reference_to id bytes = rows.Ref (record { hash = digest_of bytes; id = id; deleted = record { 0 = false } })
+
+-- what is stored of a version's block: the two rows, with the block beside the reference
+abbrev pub rows_at : ℕ → ℕ → List ℕ → List (AnyRow × Option (List ℕ))
+rows_at id offset bytes = (version_row_at id offset bytes, None) ∷ (reference_to id bytes, Some bytes) ∷ []
 
 -- the version's row with its block i alone
 abbrev pub version_row : ℕ → ℕ → List ℕ → ℕ → AnyRow
-version_row id block body i = rows.Version (record {
-  id = id;
-  blocks = Present (map_single (record { part = 1; offset = i * block }) (record { 0 = record { hash = piece_hash block body i; size = length (piece block body i) } }));
-})
+version_row id block body i = version_row_at id (i * block) (piece block body i)
 
 -- the live reference of the version to its block i
 abbrev pub reference_row : ℕ → ℕ → List ℕ → ℕ → AnyRow
-reference_row id block body i = rows.Ref (record { hash = piece_hash block body i; id = id; deleted = record { 0 = false } })
+reference_row id block body i = reference_to id (piece block body i)
 
--- what is stored of a version's block i: the two rows, with the block beside the reference
+-- what is stored of a version's block i
 abbrev pub block_rows : ℕ → ℕ → List ℕ → ℕ → List (AnyRow × Option (List ℕ))
-block_rows id block body i = (version_row id block body i, None) ∷ (reference_row id block body i, Some (piece block body i)) ∷ []
+block_rows id block body i = rows_at id (i * block) (piece block body i)

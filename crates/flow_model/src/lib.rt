@@ -18,6 +18,6 @@ mod flow;
 mod flows;
 mod order;
 
-pub use flow::{Aim, Content, Flow, FlowEnd, FlowStep, Name, Stage, Wish};
+pub use flow::{Aim, Coming, Content, Flow, FlowEnd, FlowStep, Name, Stage, Wish};
 pub use flows::Flows;
 pub use order::Order;
