@@ -50,7 +50,7 @@ module _ (id block : ℕ) where
   -- the complete version is stored
   abbrev pub completes : Name → Version → Wish → FlowStep
   completes name version wish.Marker = more (Completing version None) (stores (row.complete name version block wish.Marker))
-  completes name version (wish.Stream coming) = more (Completing version None) (stores (row.complete name version block (wish.Stream coming)))
+  completes name version (wish.Stream coming) = more (Completing version (Some (row.meta_of (row.content_of coming [])))) (stores (row.complete name version block (wish.Stream coming)))
   completes name version (wish.Content c) = more (Completing version (Some (row.meta_of c))) (stores (row.complete name version block (wish.Content c)))
 
   -- a write has drawn its version: long bytes are uploaded block by block, all else is stored at once

@@ -17,6 +17,7 @@ use Rattle.crdt_rows.specs.State.{is_sized}
 use Rattle.crdt_rows.specs.FieldLaws.{version_total}
 use Rattle.crdt_rows.specs.Versions.{is_settled_row, is_sized_row}
 use Rattle.flow_model.specs.declared.flow.Name.{Name}
+use Rattle.flow_model.specs.declared.flow.Coming.{Coming}
 use Rattle.flow_model.specs.declared.flow.Content.{Content}
 use Rattle.flow_model.specs.declared.flow.Wish.{Wish}
 use Rattle.flow_model.specs.declared.flow.Wish.TheVariants as wish
@@ -29,6 +30,10 @@ row_key name = (digest_of name.bucket).0 ++ name.key
 -- what is stored of bytes beside them: their length, their MD5 and the headers
 abbrev pub meta_of : Content → Meta
 meta_of c = record { size = length c.body; etag = md5 c.body; headers = c.headers }
+
+-- the bytes that were received of those that come, with the headers that are stored beside them
+abbrev pub content_of : Coming → List ℕ → Content
+content_of coming received = record { body = received; headers = coming.headers }
 
 -- Two laws that the next definition needs, and what they stand on: a number is itself.
 pub same_number : (n : ℕ) → (n == n) ≡ true
@@ -77,7 +82,7 @@ in_blocks name version block c = object_row name version (Complete (Blocks (meta
 -- the row that says that the version is complete
 abbrev pub complete : Name → Version → ℕ → Wish → AnyRow
 complete name version block wish.Marker = marker name version
-complete name version block (wish.Stream coming) = uploading name version  -- no bytes are known of it yet
+complete name version block (wish.Stream coming) = inline name version (content_of coming [])  -- no byte of it is known
 complete name version block (wish.Content c) = elim (is_long c.body) [ true ↦ in_blocks name version block c | false ↦ inline name version c ]
 
 -- the version's row with the block of these bytes alone, which begins at this offset

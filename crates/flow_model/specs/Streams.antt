@@ -3,8 +3,6 @@ use Rattle.std.specs.Prelude.{ℕ, Option, Some, None, List, ◌++◌, length}
 use Rattle.crdt_rows.specs.declared.any_row.AnyRow.{AnyRow}
 use Rattle.wire_messages.specs.declared.phase.Phase.{Phase}
 use Rattle.wire_messages.specs.declared.phase.Phase.TheVariants.{Store}
-use Rattle.flow_model.specs.declared.flow.Coming.{Coming}
-use Rattle.flow_model.specs.declared.flow.Content.{Content}
 use Rattle.flow_model.specs.declared.flow.Wish.TheVariants as wish
 use Rattle.flow_model.specs.declared.flow.Stage.{Stage}
 use Rattle.flow_model.specs.declared.flow.Stage.TheVariants.{Receiving, Needing, Aborting, Completing}
@@ -22,10 +20,6 @@ need_in id block stage = None
 abbrev pub need_of : Flow → Option ℕ
 need_of flow = need_in flow.id flow.block flow.stage
 
--- the bytes that were received, with the headers that are stored beside them
-abbrev pub content_of : Coming → List ℕ → Content
-content_of coming received = record { body = received; headers = coming.headers }
-
 -- what a request goes on with, and the phase whose end it waits for
 abbrev pub Step : Type 0
 Step = Option (Flow × Phase AnyRow)
@@ -39,7 +33,7 @@ module _ (id block : ℕ) where
   -- the upload is kept: the complete version is stored, with what was received
   abbrev pub kept_in : Stage → Step
   kept_in (Needing name version coming received) =
-      let c = content_of coming received in
+      let c = row.content_of coming received in
       Some (waiting id block (Completing version (Some (row.meta_of c))) (stores (row.complete name version block (wish.Content c))))
   kept_in stage = None
 
@@ -59,8 +53,3 @@ finished flow = kept_in flow.id flow.block flow.stage
 -- what it does where it is given up
 abbrev pub given_up : Flow → Step
 given_up flow = given_up_in flow.id flow.block flow.stage
-
--- the bytes that are complete then, where it is a streamed upload that waits for its client
-abbrev pub received_in : Stage → Option Content
-received_in (Needing name version coming received) = Some (content_of coming received)
-received_in stage = None

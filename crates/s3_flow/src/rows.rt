@@ -145,11 +145,11 @@ pub fn complete_pieces(
     };
     let told = meta.copy()?;
     if are_long(&received) {
-        let first = received.first_hash(alloc, block)?;
+        let first = received.first_hash(block)?;
         let row = in_blocks(alloc, name, version, meta, first)?;
         return Ok((row, told));
     }
-    let row = inline(alloc, name, version, meta, received.copy_whole(alloc)?)?;
+    let row = inline(alloc, name, version, meta, received.into_bytes()?)?;
     Ok((row, told))
 }
 

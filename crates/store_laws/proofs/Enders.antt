@@ -65,6 +65,7 @@ delete_writes kind.List h = cc
 
 pub wish_writes : (k : Kind) (w : Wish) → IsWishOf k w → IsTrue (is_write k)
 wish_writes k wish.Marker h = delete_writes k h
+wish_writes k (wish.Stream coming) h = source_writes k h
 wish_writes k (wish.Content c) h = source_writes k h
 
 -- a write doesn't read
