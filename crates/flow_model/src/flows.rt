@@ -14,7 +14,7 @@ use crdt_rows::AnyRow;
 use std::alloc::Global;
 use wire_messages::{Phase, PhaseEnd};
 
-/// Requests, phase by phase, by the two functions of specs/: all that a driver of requests knows of how they go on.
+/// Requests, phase by phase, by the functions of specs/: all that a driver of requests knows of how they go on.
 pub trait Flows: Drop {
     /// Begins the request with this number, at a time when blocks have this size in bytes, which isn't 0: what it waits
     /// for, and the phase whose end it waits for.

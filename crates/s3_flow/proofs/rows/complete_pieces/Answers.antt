@@ -14,4 +14,4 @@ returns-then-are_long-clause-row c =
 pub returns-clause-row : goal.returns-clause-row
 returns-clause-row c =
     let content : Content = record { body = c.args.received; headers = c.args.headers } in
-    complete_short c.args.name c.args.version c.args.block content c.in_ok-row-2.row (sym c.are_long.ensures ∙ c.if-are_long.false) (c.in_ok-row-2.ensures.is content (rw (c.len.ensures, c.md5.ensures) refl) c.in_ok-copy_whole.ensures.same)
+    complete_short c.args.name c.args.version c.args.block content c.in_ok-row-2.row (sym c.are_long.ensures ∙ c.if-are_long.false) (c.in_ok-row-2.ensures.is content (rw (c.len.ensures, c.md5.ensures) refl) c.in_ok-into_bytes.ensures.same)
