@@ -229,7 +229,7 @@ drains_once (suc n) s once =
 -- ---- the client of a streamed upload was heard
 
 -- draws of one write are of one object
-one_name : (d e : Draw) → IsOneWrite d e → d.name ≡ e.name
+pub one_name : (d e : Draw) → IsOneWrite d e → d.name ≡ e.name
 one_name d e (inl same) = ap (λ (x : Draw). x.name) same
 one_name d e (inr (inl filled)) = filled.name_is
 one_name d e (inr (inr filled)) = sym filled.name_is
