@@ -164,7 +164,7 @@ module _ {H : List ℕ → Type 0} where
         (followed_set (blocks_of moves) s.draws s.asked s.history q a at ds flow own (λ copy request it. knows copy (request, it)) copy h)
 
     -- the request draws and goes on
-    draws_on : (ds : List Draw) (stage : Stage) (phase : Phase AnyRow) → GoesLaid cited moves s q a at rests block laid ds stage phase → AllByRecursion (λ (d : Draw). d.request ≡ q) ds →
+    pub draws_on : (ds : List Draw) (stage : Stage) (phase : Phase AnyRow) → GoesLaid cited moves s q a at rests block laid ds stage phase → AllByRecursion (λ (d : Draw). d.request ≡ q) ds →
         ((copy : Copying) → IsIt copy → Knows (blocks_of moves) (ds ++ s.draws) copy stage × AreTaken (blocks_of moves) copy (ds ++ s.draws)) → StepLaid ds (More (flow_of q block stage) phase)
     draws_on ds stage phase h own knows fits = (
       h fits,
@@ -175,7 +175,7 @@ module _ {H : List ℕ → Type 0} where
       )),
     )
 
-    goes : (stage : Stage) (phase : Phase AnyRow) → GoesLaid cited moves s q a at rests block laid [] stage phase → ((copy : Copying) → IsIt copy → Knows (blocks_of moves) s.draws copy stage) → StepLaid [] (More (flow_of q block stage) phase)
+    pub goes : (stage : Stage) (phase : Phase AnyRow) → GoesLaid cited moves s q a at rests block laid [] stage phase → ((copy : Copying) → IsIt copy → Knows (blocks_of moves) s.draws copy stage) → StepLaid [] (More (flow_of q block stage) phase)
     goes stage phase h knows = draws_on [] stage phase h tt (λ copy it. (knows copy it, it.1.taken))
 
     ends : (end : FlowEnd) → ((p id : ℕ) → record_of q end ≡ Ended p (WasSuperseded id) → IsReplaced here s.asked p id) → Tells here (lines_of_end q a.kind end) → StepLaid [] (End end)

@@ -52,7 +52,7 @@ OutcomeFated ms o = IsFated (stored_in (ms ++ o.moves)) o.state.asked o.state.dr
 abbrev pub NamesNone : AnyRow → Type 0
 NamesNone row = (id : ℕ) → OfVersion id row → ⊥
 
-complete_names_none : (name : Name) (v : Version) (block : ℕ) (w : Wish) → NamesNone (complete name v block w)
+pub complete_names_none : (name : Name) (v : Version) (block : ℕ) (w : Wish) → NamesNone (complete name v block w)
 complete_names_none name v block w id of = subst (OfVersion id) (complete_row name v block w).1 of
 
 -- a stage in which no bytes come
@@ -115,7 +115,7 @@ module _ {H : List ℕ → Type 0} where
     StepFated ds st = OutcomeFated ms (takes s q a ds st)
 
     -- what is known after a step that stores these rows
-    one_step : (m : Moving) (asked : List Asked) (draws : List Draw) → IsFated (stored ++ stored_by m.step) asked draws → IsFated (stored_in (ms ++ m ∷ [])) asked draws
+    pub one_step : (m : Moving) (asked : List Asked) (draws : List Draw) → IsFated (stored ++ stored_by m.step) asked draws → IsFated (stored_in (ms ++ m ∷ [])) asked draws
     one_step m asked draws h = subst (λ (rs : List AnyRow). IsFated rs asked draws) (sym (stored_more ms m)) h
 
     no_step : (asked : List Asked) (draws : List Draw) → IsFated (stored ++ []) asked draws → IsFated (stored_in (ms ++ [])) asked draws
