@@ -1,4 +1,4 @@
--- Requests go on: none waits on with its phase ended, so that none rests after an act.
+-- Requests go on: none waits on with its phase ended, so that after an act one rests only where it needs its client.
 use Rattle.std.specs.Prelude.{◌≡◌, ℕ, zero, suc, true, false, Option, Some, None, if◌then◌else◌, List, [], ◌∷◌, ◌++◌, length, refl, ⊤, ◌⊎◌}
 use Rattle.std.proofs.Common.{ap, sym, subst, ◌∙◌, inl, inr}
 use Rattle.std.specs.List.{AllByRecursion}
@@ -84,7 +84,7 @@ IsGoing (End end) = ⊤
 
 -- a stream that waits for its client needs something
 some_needed : (id block : ℕ) (name : Name) (v : Version) (coming : Coming) (received : List ℕ) → IsSome (need_of (record { id = id; block = block; stage = Needing name v coming received }))
-some_needed id block name v coming received = tt
+some_needed id block name v coming received = refl
 
 module _ (id block : ℕ) where
   found_going : (aim : Aim) (v : Version) (meta : Meta) (body : List ℕ) → IsGoing (found id block aim v meta body)
