@@ -26,7 +26,7 @@ use Rattle.flow_model.specs.declared.flow.Content.{Content}
 use Rattle.flow_model.specs.declared.flow.Wish.{Wish}
 use Rattle.flow_model.specs.declared.flow.Wish.TheVariants as wish
 use Rattle.flow_model.specs.declared.flow.Stage.{Stage}
-use Rattle.flow_model.specs.declared.flow.Stage.TheVariants.{Uploading, Receiving, Needing, Aborting, Completing, Opening, Gathering}
+use Rattle.flow_model.specs.declared.flow.Stage.TheVariants.{Uploading, Receiving, Aborting, Completing, Opening, Gathering}
 use Rattle.flow_model.specs.declared.flow.Flow.{Flow}
 use Rattle.flow_model.specs.declared.flow.FlowEnd.{FlowEnd}
 use Rattle.flow_model.specs.Blocks.{piece, has_piece, is_long}

@@ -21,7 +21,7 @@ use Rattle.flow_model.specs.declared.flow.FlowStep.TheVariants.{More}
 use Rattle.flow_model.specs.Rows.{meta_of, content_of, aborted, complete, rows_at}
 use Rattle.flow_model.specs.Next.{stores, wanted}
 use Rattle.flow_model.specs.Streams.{Step, need_of, fed, finished, given_up}
-use Rattle.store_model.specs.Run.{Moving, State, Asked, Draw, Outcome, silent, effect, phases, set_flow, goes as goes_on, needed, need_at, heard_in, heard, fills_in, fills_at, feeding, keeping, giving_up}
+use Rattle.store_model.specs.Run.{Moving, State, Asked, Draw, Outcome, silent, effect, phases, set_flow, goes as goes_on, is_open_at, needed, need_at, heard_in, heard, fills_in, fills_at, feeding, keeping, giving_up}
 use Rattle.store_model.specs.Acts.{IsLawfulAct, feeds, keeps}
 use Rattle.store_laws.proofs.Acting.{number_fits}
 use Rattle.store_laws.proofs.Elements.{none_in, cons_cases}
@@ -82,7 +82,7 @@ module _ {H : List ℕ → Type 0} where
       -- what is needed
       wants : (n : ℕ) → need_at s q ≡ Some n → wanted q block coming received ≡ n
       wants n e =
-          let so : needed (numbered s.asked q) ≡ Some n = needed_so _ _ n e in
+          let so : needed (numbered s.asked q) ≡ Some n = needed_so (is_open_at s.world q) (needed (numbered s.asked q)) n e in
           let here : Some (wanted q block coming received) ≡ Some n = sym (ap (λ (o : Option Asked). needed o) at ∙ ap (λ (o : Option Flow). option_and_then need_of o) flow_is) ∙ so in
           cc
 
