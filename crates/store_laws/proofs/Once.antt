@@ -258,14 +258,15 @@ module _ {H : List ℕ → Type 0} where
         let x : Draw = record { request = q; name = name; version = version; wish = wish.Content (content_of coming received); block = flow.block; moment = length s.history } in
         let wished : HasWished s.draws q name version (wish.Stream coming) = (subst (IsStage H s.draws s.history q a) stage_is (sound.stages q a flow at is).1).1 in
         let w : Draw = record { request = q; name = name; version = version; wish = wish.Stream coming; block = wished.block; moment = wished.moment } in
-        once_set s.asked s.draws (x ∷ []) q a (Some (record { id = flow.id; block = flow.block; stage = Completing version (Some (meta_of (content_of coming received))) })) at once
+        let next : Flow = record { id = flow.id; block = flow.block; stage = Completing version (Some (meta_of (content_of coming received))) } in
+        once_set s.asked s.draws (x ∷ []) q a (Some next) at once
         (λ d e c k. sym (only x d c) ∙ only x e k) (λ d c. ap (λ (y : Draw). y.request) (sym (only x d c)))
         (λ d e c k own.
             let one : IsOneWrite e w = once.one e w k wished.drawn own in
             let streamed : e.wish ≡ wish.Stream coming = subst (IsPast e) stage_is (had_past flow is e k own) in
             let filled : IsFilled e x = record { request_is = own; name_is = one_name e w one; version_is = one_version e w one; coming = coming; received = received; wish_is = streamed; makes = refl } in
             inr (inr (subst (IsFilled e) (only x d c) filled)))
-        (λ f d e c own. (let same : record { id = flow.id; block = flow.block; stage = Completing version (Some (meta_of (content_of coming received))) } ≡ f = cc in subst (λ (g : Flow). IsPast d g.stage) same tt))
+        (λ f d e c own. (let same : next ≡ f = cc in subst (λ (g : Flow). IsPast d g.stage) same tt))
     kept_once flow _ is stage_is = once
 
     in_fed : (bytes : List ℕ) (flow : Option Flow) → a.flow ≡ flow → IsOnceIn (heard_in s q (λ flow. fed flow bytes) a flow).state
