@@ -65,7 +65,7 @@ use Rattle.store_laws.proofs.Values.{read_written}
 use Rattle.store_laws.proofs.Acting.{number_fits}
 use Rattle.store_anchors.specs.Copied.{Copying, IsTaken}
 use Rattle.store_anchors.specs.Stored.{blocks_of}
-use Rattle.store_anchors.specs.Whole.{SaysAllBytes, IsWhole}
+use Rattle.store_anchors.specs.Whole.{SaysAllBytes}
 use Rattle.store_anchors.proofs.Cited.{Cited}
 use Rattle.store_anchors.proofs.Kept.{IsFound, AsksNames, Fetches, IsPassed, IsReplaced}
 use Rattle.store_anchors.proofs.Laid.{blocks_old}

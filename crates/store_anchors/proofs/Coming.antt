@@ -1,6 +1,6 @@
 -- The blocks of bytes that came, and of these with one block more.
-use Rattle.std.specs.Prelude.{◌≡◌, ◌<◌, ◌≤◌, ◌*◌, ◌+◌, nat_lt, ℕ, zero, suc, true, false, List, [], ◌++◌, length, take, drop, refl}
-use Rattle.std.proofs.Common.{ap, sym, subst, ◌∙◌, le_refl, arith}
+use Rattle.std.specs.Prelude.{◌≡◌, ◌<◌, ◌≤◌, ◌*◌, ◌+◌, nat_lt, ℕ, suc, true, false, List, [], ◌++◌, length, take, drop, refl}
+use Rattle.std.proofs.Common.{ap, sym, ◌∙◌, le_refl, arith}
 use Rattle.std.proofs.lemmas.Bool.{lt-ltb, le-ltb, ltb-true, ltb-false}
 use Rattle.std.proofs.lemmas.Nat.{mul-le}
 use Rattle.std.proofs.lemmas.List.{length-append, drop-append-le, take-append-le, length-drop, take_all}

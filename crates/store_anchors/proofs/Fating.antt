@@ -1,5 +1,5 @@
 -- What requests do keeps what stays so of versions.
-use Rattle.std.proofs.Common.{◌≡◌, inl, inr, ℕ, suc, true, false, Option, Some, None, List, [], ◌∷◌, ◌++◌, length, refl, sym, ap, ◌∙◌, subst, arith}
+use Rattle.std.proofs.Common.{◌≡◌, inl, inr, ℕ, suc, true, false, Option, Some, None, List, [], ◌∷◌, ◌++◌, length, refl, sym, ap, ◌∙◌, subst}
 use Rattle.std.specs.Prelude.{⊤}
 use Rattle.std.specs.List.{Contains}
 use Rattle.std.proofs.lemmas.List.{append-nil}
@@ -9,7 +9,6 @@ use Rattle.crdt_rows.specs.declared.body.Meta.{Meta}
 use Rattle.crdt_rows.specs.declared.version_row.BlockRef.{BlockRef}
 use Rattle.crdt_rows.specs.declared.object_row.ObjectRow.{ObjectRow}
 use Rattle.crdt_rows.specs.declared.any_row.AnyRow.{AnyRow}
-use Rattle.wire_messages.specs.declared.phase.Phase.{Phase}
 use Rattle.wire_messages.specs.declared.phase.Phase.TheVariants.{Store}
 use Rattle.wire_messages.specs.declared.phase.PhaseEnd.{PhaseEnd}
 use Rattle.wire_messages.specs.declared.phase.PhaseEnd.TheVariants.{Row as Answered, Window, Kept, Block}
@@ -30,15 +29,15 @@ use Rattle.flow_model.specs.declared.flow.Flow.{Flow}
 use Rattle.flow_model.specs.declared.flow.FlowStep.{FlowStep}
 use Rattle.flow_model.specs.declared.flow.FlowStep.TheVariants.{More, Need, Wait, End}
 use Rattle.flow_model.specs.Blocks.{has_piece, is_long}
-use Rattle.flow_model.specs.Rows.{meta_of, content_of, uploading, aborted, complete, version_row, reference_row, block_rows, version_row_at, reference_to, rows_at}
+use Rattle.flow_model.specs.Rows.{meta_of, content_of, uploading, aborted, complete, version_row, reference_row, block_rows, version_row_at, reference_to}
 use Rattle.flow_model.specs.Says.{Said, none, marked, inline, in_blocks, said_of, Named, unnamed, whole, deleted, named_by, shown_rows}
-use Rattle.flow_model.specs.Next.{drawn, stores, more, found, looked, reads_on, gathers, opened, lists, completes, writes, uploads, goes_on as flow_goes_on}
-use Rattle.store_model.specs.Run.{Moving, State, Asked, Draw, Outcome, phases, plainly, set_flow, draws_of, takes, goes, finishes}
+use Rattle.flow_model.specs.Next.{drawn, stores, more, found, looked, reads_on, gathers, opened, lists, completes, uploads, goes_on as flow_goes_on}
+use Rattle.store_model.specs.Run.{Moving, State, Asked, Draw, Outcome, phases, plainly, set_flow, draws_of, takes}
 use Rattle.store_laws.proofs.Elements.{none_in, only, cons_cases}
 use Rattle.store_laws.proofs.Going.{flow_of}
 use Rattle.store_laws.proofs.Once.{IsPast, IsOnceIn}
 use Rattle.store_laws.proofs.Rows.{IsKnown, complete_row}
-use Rattle.store_laws.proofs.Sound.{IsStage, IsSound}
+use Rattle.store_laws.proofs.Sound.{IsSound}
 use Rattle.store_anchors.proofs.Kept.{Past, IsRowOf}
 use Rattle.store_anchors.proofs.Laid.{HasUploaded, past, IsLaidIn, stored_more}
 use Rattle.store_anchors.proofs.Told.{row_version, row_given_up, complete_given_up, aborted_drawn, one_known}

@@ -1,15 +1,14 @@
 -- What the client of a streamed upload does keeps what was stored with its blocks, and what stays so of versions.
-use Rattle.std.specs.Prelude.{◌≡◌, ◌<◌, ◌≤◌, ◌^◌, ◌*◌, ◌+◌, ◌-◌, min, ℕ, Bool, true, false, Option, Some, None, if◌then◌else◌, List, [], ◌∷◌, ◌++◌, length, refl}
+use Rattle.std.specs.Prelude.{◌≡◌, ◌<◌, ◌≤◌, ◌^◌, ◌*◌, ◌+◌, ◌-◌, ℕ, Bool, true, false, Option, Some, None, if◌then◌else◌, List, [], ◌∷◌, ◌++◌, length, refl}
 use Rattle.std.proofs.Common.{ap, sym, subst, ◌∙◌, inl, inr, arith}
 use Rattle.std.specs.List.{Contains}
 use Rattle.std.specs.Option.{option_and_then}
 use Rattle.std.proofs.lemmas.List.{append-nil}
 use Rattle.crdt_rows.specs.declared.version.Version.{Version}
 use Rattle.crdt_rows.specs.declared.any_row.AnyRow.{AnyRow}
-use Rattle.wire_messages.specs.declared.phase.Phase.{Phase}
 use Rattle.wire_messages.specs.declared.phase.Phase.TheVariants.{Store}
 use Rattle.cluster_machine.specs.World.{numbered}
-use Rattle.machine_origins.specs.Origins.{stored_by, stored_in}
+use Rattle.machine_origins.specs.Origins.{stored_in}
 use Rattle.flow_model.specs.declared.flow.Name.{Name}
 use Rattle.flow_model.specs.declared.flow.Coming.{Coming}
 use Rattle.flow_model.specs.declared.flow.Content.{Content}
@@ -17,12 +16,11 @@ use Rattle.flow_model.specs.declared.flow.Wish.TheVariants as wish
 use Rattle.flow_model.specs.declared.flow.Stage.{Stage}
 use Rattle.flow_model.specs.declared.flow.Stage.TheVariants.{Receiving, Needing, Aborting, Completing}
 use Rattle.flow_model.specs.declared.flow.Flow.{Flow}
-use Rattle.flow_model.specs.declared.flow.FlowStep.TheVariants.{More}
 use Rattle.flow_model.specs.Rows.{meta_of, content_of, aborted, complete, rows_at}
 use Rattle.flow_model.specs.Next.{stores, wanted}
 use Rattle.flow_model.specs.Streams.{Step, need_of, fed, finished, given_up}
 use Rattle.store_model.specs.Run.{Moving, State, Asked, Draw, Outcome, silent, effect, phases, set_flow, goes as goes_on, is_open_at, needed, need_at, heard_in, heard, fills_in, fills_at, feeding, keeping, giving_up}
-use Rattle.store_model.specs.Acts.{IsLawfulAct, feeds, keeps}
+use Rattle.store_model.specs.Acts.{IsLawfulAct, feeds}
 use Rattle.store_laws.proofs.Acting.{number_fits}
 use Rattle.store_laws.proofs.Elements.{none_in, cons_cases}
 use Rattle.store_laws.proofs.Going.{flow_of}
@@ -40,7 +38,7 @@ use Rattle.store_anchors.proofs.Fated.{IsFated, IsFatedIn}
 use Rattle.store_anchors.proofs.Fating.{OutcomeFated, one_step, complete_names_none, fed_fated, kept_fated, given_up_fated}
 use Rattle.store_anchors.proofs.Going.{fed_laid, aborting_laid, completes_laid}
 use Rattle.store_anchors.proofs.Kept.{Past, HasAll, IsLong}
-use Rattle.store_anchors.proofs.Laid.{HasReceived, AreStored, past, IsLaid, IsLaidIn}
+use Rattle.store_anchors.proofs.Laid.{HasReceived, AreStored, past, IsLaidIn}
 use Rattle.store_anchors.proofs.Lines.{tells_none}
 use Rattle.store_anchors.proofs.Taking.{AreTaken, followed_first}
 use Rattle.store_anchors.proofs.Told.{complete_given_up}

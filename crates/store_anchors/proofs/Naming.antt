@@ -44,7 +44,6 @@ use Rattle.table_model.proofs.RowLaws.{place_total}
 use Rattle.row_codec.specs.Range.{is_eight}
 use Rattle.store_laws.proofs.Rows.{complete_row}
 use Rattle.flow_model.specs.declared.flow.Wish.TheVariants as wish
-use Rattle.flow_model.specs.declared.flow.Content.{Content}
 use Rattle.flow_model.specs.Blocks.{has_piece}
 use Rattle.flow_model.specs.Rows.{version_row}
 use Rattle.flow_model.specs.Says.{Named, whole, deleted, named_by, of_entries}

@@ -1,19 +1,14 @@
 -- What the client of a streamed upload does keeps a state sound.
 use Rattle.std.proofs.Common.{◌≡◌, ◌<◌, ◌^◌, inl, inr, ℕ, Option, Some, None, List, [], ◌∷◌, ◌++◌, length, refl, sym, ap, ◌∙◌, subst}
-use Rattle.crdt_core.specs.Members.{Has}
-use Rattle.crdt_rows.specs.declared.version.Version.{Version}
-use Rattle.crdt_rows.specs.declared.any_row.AnyRow.{AnyRow}
-use Rattle.cluster_machine.specs.Node.{resting, Call}
 use Rattle.cluster_machine.specs.World.{numbered}
 use Rattle.wire_messages.specs.declared.phase.Phase.TheVariants.{Store}
-use Rattle.flow_model.specs.declared.flow.Name.{Name}
 use Rattle.flow_model.specs.declared.flow.Wish.TheVariants as wish
 use Rattle.flow_model.specs.declared.flow.Stage.{Stage}
 use Rattle.flow_model.specs.declared.flow.Stage.TheVariants.{Needing}
 use Rattle.flow_model.specs.declared.flow.Flow.{Flow}
 use Rattle.flow_model.specs.Rows.{rows_at}
-use Rattle.flow_model.specs.Streams.{Step, fed, finished, given_up, fed_in, kept_in, given_up_in}
-use Rattle.store_model.specs.Run.{State, Asked, Draw, effect, phases, hears, heard_in, heard, fills_of, fills_in, fills_at, feeding, keeping, giving_up}
+use Rattle.flow_model.specs.Streams.{Step, fed, finished, given_up}
+use Rattle.store_model.specs.Run.{State, Asked, Draw, effect, phases, heard_in, heard, fills_in, fills_at, feeding, keeping, giving_up}
 use Rattle.store_laws.proofs.Every.{EveryWorld}
 use Rattle.store_laws.proofs.Sound.{HasPhase, IsStage, IsSound}
 use Rattle.store_laws.proofs.Grown.{Rests}

@@ -26,7 +26,7 @@ use Rattle.cluster_machine.proofs.Closing.{length_shut}
 use Rattle.store_model.specs.Run.{State, Moving, Asked, doing, effect}
 use Rattle.machine_origins.proofs.Calm.{IsCalm}
 use Rattle.store_laws.proofs.Good.{IsGood}
-use Rattle.store_laws.proofs.Sound.{StoresGood, IsReached, IsProper, AreProper, WaitsAt, IsPresent, ArePresent, IsSound}
+use Rattle.store_laws.proofs.Sound.{StoresGood, IsReached, IsProper, AreProper, WaitsAt, ArePresent, IsSound}
 use Rattle.store_laws.proofs.Freshness.{fresh_later}
 use Rattle.store_laws.proofs.Grown.{kept_later}
 use Rattle.store_laws.proofs.Reached.{reached_step, reached_installing}
