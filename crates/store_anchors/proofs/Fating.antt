@@ -28,6 +28,7 @@ use Rattle.flow_model.specs.declared.flow.Stage.TheVariants.{Drawing, Uploading,
 use Rattle.flow_model.specs.declared.flow.Flow.{Flow}
 use Rattle.flow_model.specs.declared.flow.FlowStep.{FlowStep}
 use Rattle.flow_model.specs.declared.flow.FlowStep.TheVariants.{More, Need, Wait, End}
+use Rattle.flow_model.specs.declared.flow.FlowEnd.TheVariants.{Stored}
 use Rattle.flow_model.specs.Blocks.{has_piece, is_long}
 use Rattle.flow_model.specs.Rows.{meta_of, content_of, uploading, aborted, complete, version_row, reference_row, block_rows, version_row_at, reference_to}
 use Rattle.flow_model.specs.Says.{Said, none, marked, inline, in_blocks, said_of, Named, unnamed, whole, deleted, named_by, shown_rows}
@@ -401,11 +402,11 @@ module _ {H : List ℕ → Type 0} where
     stage_fated now (Drawing name w) (Answered value) flow_is = drawing_fated name w value now flow_is
     stage_fated now (Uploading name v c k) Kept flow_is = uploads_fated name v c k flow_is
     stage_fated now (Receiving name v coming received) Kept flow_is =
-        let f : Flow = flow_of q block (Receiving name v coming received) in
-        waits_fated ms s sound once laid fated q a at f flow_is (flow_of q block (Needing name v coming received)) (fated.coming q a f at flow_is) (λ up. absurd up)
+        let g : Flow = flow_of q block (Receiving name v coming received) in
+        waits_fated ms s sound once laid fated q a at g flow_is (flow_of q block (Needing name v coming received)) (fated.coming q a g at flow_is) (λ up. absurd up)
     stage_fated now (Aborting v) Kept flow_is =
         one_step ms s sound once laid fated q a at (plainly (step.Close q)) (set_flow s q a None) s.draws (fated_still ms s sound once laid fated q a at (flow_of q block (Aborting v)) flow_is None (λ x is. cc) (λ x is up. cc))
-    stage_fated now (Completing v meta) Kept flow_is = quietly (Completing v meta) flow_is (λ no. no) _ tt
+    stage_fated now (Completing v meta) Kept flow_is = quietly (Completing v meta) flow_is (λ no. no) (End (Stored v meta)) tt
     stage_fated now (Looking name aim) (Answered value) flow_is = quietly (Looking name aim) flow_is (λ no. no) (looked q block aim (said_of value)) (looked_quiet q block aim (said_of value))
     stage_fated now (Opening v meta aim) (Answered value) flow_is = quietly (Opening v meta aim) flow_is (λ no. no) (opened q block aim v meta (named_by value meta.size)) (opened_quiet q block aim v meta (named_by value meta.size))
     stage_fated now (Gathering v meta aim left body) (Block bytes) flow_is = quietly (Gathering v meta aim left body) flow_is (λ no. no) (gathers q block aim v meta left (body ++ bytes)) (gathers_quiet q block aim v meta left (body ++ bytes))
