@@ -25,7 +25,7 @@ use Rattle.flow_model.specs.declared.flow.Stage.{Stage}
 use Rattle.flow_model.specs.declared.flow.Stage.TheVariants.{Completing}
 use Rattle.flow_model.specs.declared.flow.Flow.{Flow}
 use Rattle.flow_model.specs.declared.flow.FlowEnd.{FlowEnd}
-use Rattle.flow_model.specs.declared.flow.FlowEnd.TheVariants.{Stored, Found, Nothing, Listed, Superseded}
+use Rattle.flow_model.specs.declared.flow.FlowEnd.TheVariants.{Stored, Found, Nothing, Listed, Superseded, Aborted}
 use Rattle.flow_model.specs.Rows.{complete}
 use Rattle.store_model.specs.Answers.{record_of}
 use Rattle.history_model.specs.declared.record.Record.{Record}
@@ -92,6 +92,7 @@ module _ {H : List ℕ → Type 0} where
       never_begins Nothing p n k name e = cc
       never_begins (Listed rows) p n k name e = cc
       never_begins (Superseded id) p n k name e = cc
+      never_begins Aborted p n k name e = cc
 
       -- a request that finishes with what it owes
       pub finishes_keeps : (end : FlowEnd) → FitIn H s.world (finishes s q a end).moves → ((n : ℕ) (x : Answer) → record_of q end ≡ Finished n x → IsEndOf H s n x) →

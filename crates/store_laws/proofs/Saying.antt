@@ -33,7 +33,7 @@ use Rattle.flow_model.specs.declared.flow.Wish.TheVariants as wish
 use Rattle.flow_model.specs.declared.flow.Aim.{Aim}
 use Rattle.flow_model.specs.declared.flow.Aim.TheVariants as aim
 use Rattle.flow_model.specs.declared.flow.Stage.{Stage}
-use Rattle.flow_model.specs.declared.flow.Stage.TheVariants.{Drawing, Uploading, Aborting, Completing, Looking, Opening, Gathering, Listing}
+use Rattle.flow_model.specs.declared.flow.Stage.TheVariants.{Drawing, Uploading, Receiving, Aborting, Completing, Looking, Opening, Gathering, Listing}
 use Rattle.flow_model.specs.declared.flow.Flow.{Flow}
 use Rattle.flow_model.specs.declared.flow.FlowStep.{FlowStep}
 use Rattle.flow_model.specs.declared.flow.FlowStep.TheVariants.{More, Need, Wait, End}
@@ -215,6 +215,7 @@ module _ {H : List ℕ → Type 0} where
         StepSays s.draws a.kind (flow_goes_on id block stage end now)
     stage_says id block (Drawing name w) (Answered value) now flow_is stage end = writes_says s.draws id block a name (drawn id value now) w
     stage_says id block (Uploading name v c stored) Kept now flow_is stage end = uploads_says s.draws id block a name v c stored
+    stage_says id block (Receiving name v coming received) Kept now flow_is stage end = tt
     stage_says id block (Aborting v) Kept now flow_is stage end = λ p. tells_none s.draws
     stage_says id block (Completing v meta) Kept now flow_is stage end = λ p. tells_one s.draws (Done p (word_of a.kind) (Some (pair v)) None None) (stored_says s.draws a.kind v meta stage p)
     stage_says id block (Looking name aim) (Answered value) now flow_is stage end = looked_says s.draws id block a aim (said_of value) stage.0 (read_written every s q sound value end)
