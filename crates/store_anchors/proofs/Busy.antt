@@ -310,7 +310,7 @@ module _ {H : List ℕ → Type 0} where
         acts_busy (ms ++ o.moves) o.state as' lawful.1 fit.1 (record { sound = act_keeps cited.every s a lawful.0 fit.0 h.sound; once = act_once s a h.sound h.once; laid = one.0; fated = act_fated cited ms s a lawful.0 fit.0 h.sound h.once h.fated h.laid }) (act_busy ms s a lawful.0 fit.0 h busy)
 
     -- what an open request needs is needed
-    is_needed : (open : Bool) (o : Option ℕ) → open ≡ true → IsSome o → IsSome (if open then o else None)
+    is_needed : (is_open : Bool) (o : Option ℕ) → is_open ≡ true → IsSome o → IsSome (if is_open then o else None)
     is_needed true o e h = h
     is_needed false o e h = cc
 

@@ -52,7 +52,7 @@ taken_there blocks copy (x ∷ older) d c taken own = elim (cons_cases x older d
 ]
 
 -- what is needed of an open request is needed by its flow
-needed_so : (open : Bool) (o : Option ℕ) (n : ℕ) → (if open then o else None) ≡ Some n → o ≡ Some n
+needed_so : (is_open : Bool) (o : Option ℕ) (n : ℕ) → (if is_open then o else None) ≡ Some n → o ≡ Some n
 needed_so true o n e = e
 needed_so false o n e = cc
 
