@@ -224,7 +224,7 @@ module _ {H : List ℕ → Type 0} where
 
     goes_on_busy : (ms : List Moving) (s : State) (n : ℕ) (ends : List (Ended AnyRow)) → IsSound H s → AreApart s.draws → IsFatedIn ms s → IsLaidIn H ms s → AllByRecursion (λ (e : Ended AnyRow). WaitsAt s.asked n e.request) ends →
         AllByRecursion (λ (e : Ended AnyRow). HasGot s.asked (past ms s.world s.draws) s.world.reads e.request e.how) ends → ArePlaced s.world.nodes s.world.requests → OnlyRest (λ p. FirstEnded ends p ⊎ NeedsClient s.asked p) s.world.nodes → IsBusy (goes_on s ends).state
-    goes_on_busy ms s n [] sound apart fated laid waits got placed rest = record { placed = placed; rests = λ m c there is. elim (rest m c there is) [ inl none ↦ absurd none | inr needs ↦ needs ] }
+    goes_on_busy ms s n [] sound apart fated laid waits got placed rest = record { placed = placed; rests = λ m c there is. elim (rest m c there is) [ inl unended ↦ absurd unended | inr needs ↦ needs ] }
     goes_on_busy ms s n (e ∷ es) sound apart fated laid waits got placed rest = follow_busy ms s n e.request (numbered s.asked e.request) refl waits.0 sound apart fated laid e.how got.0 placed rest
 
     delivers_busy : (ms : List Moving) (s : State) (m : ℕ) → FitIn H s.world (delivers s m).moves → IsSound H s → AreApart s.draws → IsFatedIn ms s → IsLaidIn H ms s → IsBusy s → IsBusy (delivers s m).state
