@@ -21,11 +21,11 @@ use Rattle.flow_model.specs.declared.flow.Wish.TheVariants as wish
 use Rattle.flow_model.specs.declared.flow.Aim.{Aim}
 use Rattle.flow_model.specs.declared.flow.Aim.TheVariants as aim
 use Rattle.flow_model.specs.declared.flow.Stage.{Stage}
-use Rattle.flow_model.specs.declared.flow.Stage.TheVariants.{Drawing, Uploading, Completing, Looking, Opening, Gathering, Listing}
+use Rattle.flow_model.specs.declared.flow.Stage.TheVariants.{Drawing, Uploading, Receiving, Needing, Aborting, Completing, Looking, Opening, Gathering, Listing}
 use Rattle.flow_model.specs.declared.flow.FlowStep.{FlowStep}
-use Rattle.flow_model.specs.declared.flow.FlowStep.TheVariants.{More, Wait, End}
+use Rattle.flow_model.specs.declared.flow.FlowStep.TheVariants.{More, Need, Wait, End}
 use Rattle.flow_model.specs.declared.flow.FlowEnd.{FlowEnd}
-use Rattle.flow_model.specs.declared.flow.FlowEnd.TheVariants.{Stored, Found, Nothing, Listed, Superseded}
+use Rattle.flow_model.specs.declared.flow.FlowEnd.TheVariants.{Stored, Found, Nothing, Listed, Superseded, Aborted}
 use Rattle.flow_model.specs.Blocks.{has_piece, is_long}
 use Rattle.flow_model.specs.Flow.{started}
 use Rattle.flow_model.specs.Rows.{uploading, block_rows}
@@ -58,6 +58,9 @@ module _ (V : Version → Type 0) (S : ℕ → Type 0) where
     abbrev pub IsStage : Kind → Stage → Type 0
     IsStage k (Drawing name w) = IsTrue (is_write k)
     IsStage k (Uploading name version c stored) = IsTrue (is_write k) × V version
+    IsStage k (Receiving name version coming received) = IsTrue (is_write k) × V version
+    IsStage k (Needing name version coming received) = IsTrue (is_write k) × V version
+    IsStage k (Aborting version) = IsTrue (is_write k)
     IsStage k (Completing version meta) = IsTrue (is_write k) × V version
     IsStage k (Looking name aim) = IsAimOf k aim
     IsStage k (Opening version meta aim) = IsAimOf k aim × V version × S meta.size
@@ -73,9 +76,11 @@ module _ (V : Version → Type 0) (S : ℕ → Type 0) where
     IsEnd k Nothing = MayFindNone k
     IsEnd k (Listed rows) = (k ≡ kind.List) × T rows
     IsEnd k (Superseded id) = ⊤
+    IsEnd k Aborted = IsTrue (is_write k)
 
     abbrev pub IsNext : Kind → FlowStep → Type 0
     IsNext k (More flow phase) = IsStage k flow.stage
+    IsNext k (Need flow wanted) = IsStage k flow.stage
     IsNext k (Wait flow) = IsStage k flow.stage
     IsNext k (End end) = IsEnd k end
 
@@ -95,10 +100,12 @@ module _ (V : Version → Type 0) (S : ℕ → Type 0) where
 
     completes_is : (name : Name) (version : Version) (w : Wish) → IsTrue (is_write k) → V version → Next (completes id block name version w)
     completes_is name version wish.Marker h v = (h, v)
+    completes_is name version (wish.Stream coming) h v = (h, v)
     completes_is name version (wish.Content c) h v = (h, v)
 
     writes_is : (name : Name) (version : Version) (w : Wish) → IsTrue (is_write k) → V version → Next (writes id block name version w)
     writes_is name version wish.Marker h v = (h, v)
+    writes_is name version (wish.Stream coming) h v = (h, v)
     writes_is name version (wish.Content c) h v =
         elim (is_long c.body) as (λ b. Next (elim b as (λ b. FlowStep) [ true ↦ more id block (Uploading name version c 0) (stores (uploading name version)) | false ↦ completes id block name version (wish.Content c) ])) [
           | true ↦ (h, v)
@@ -150,6 +157,8 @@ module _ (V : Version → Type 0) (S : ℕ → Type 0) where
     pub next_is : (stage : Stage) (end : PhaseEnd AnyRow) (now : ℕ) → IsStage T k stage → Gives U id stage end now → Next (goes_on id block stage end now)
     next_is (Drawing name w) (Row value) now h g = writes_is name (drawn id value now) w h g
     next_is (Uploading name version c stored) Kept now h g = uploads_is name version c stored h.0 h.1
+    next_is (Receiving name version coming received) Kept now h g = h
+    next_is (Aborting version) Kept now h g = h
     next_is (Completing version meta) Kept now h g = h
     next_is (Looking name a) (Row value) now h g = looked_is a (said_of value) h g
     next_is (Opening version meta a) (Row value) now h g = opened_is a version meta (named_by value meta.size) h.0 h.1 h.2
@@ -161,6 +170,16 @@ module _ (V : Version → Type 0) (S : ℕ → Type 0) where
     next_is (Uploading name version c stored) (Row value) now h g = h
     next_is (Uploading name version c stored) (Window rs end) now h g = h
     next_is (Uploading name version c stored) (Block bytes) now h g = h
+    next_is (Receiving name version coming received) (Row value) now h g = h
+    next_is (Receiving name version coming received) (Window rs end) now h g = h
+    next_is (Receiving name version coming received) (Block bytes) now h g = h
+    next_is (Needing name version coming received) (Row value) now h g = h
+    next_is (Needing name version coming received) (Window rs end) now h g = h
+    next_is (Needing name version coming received) Kept now h g = h
+    next_is (Needing name version coming received) (Block bytes) now h g = h
+    next_is (Aborting version) (Row value) now h g = h
+    next_is (Aborting version) (Window rs end) now h g = h
+    next_is (Aborting version) (Block bytes) now h g = h
     next_is (Completing version meta) (Row value) now h g = h
     next_is (Completing version meta) (Window rs end) now h g = h
     next_is (Completing version meta) (Block bytes) now h g = h
@@ -180,6 +199,7 @@ module _ (V : Version → Type 0) (S : ℕ → Type 0) where
   -- what a request begins with
   pub started_is : (T : List ObjectRow → Type 0) → T [] → (o : Order) (id block : ℕ) → IsStage T (kind_of o) (started o id block).0.stage
   started_is T empty (order.Put bucket key body headers) id block = refl
+  started_is T empty (order.Stream bucket key length headers) id block = refl
   started_is T empty (order.Get bucket key) id block = refl
   started_is T empty (order.Head bucket key) id block = refl
   started_is T empty (order.Delete bucket key) id block = refl
@@ -211,6 +231,9 @@ gives_any id (Drawing name w) (Window rs end) now = tt
 gives_any id (Drawing name w) Kept now = tt
 gives_any id (Drawing name w) (Block bytes) now = tt
 gives_any id (Uploading name version c stored) end now = tt
+gives_any id (Receiving name version coming received) end now = tt
+gives_any id (Needing name version coming received) end now = tt
+gives_any id (Aborting version) end now = tt
 gives_any id (Completing version meta) end now = tt
 gives_any id (Looking name a) (Window rs end) now = tt
 gives_any id (Looking name a) Kept now = tt

@@ -1,5 +1,5 @@
 -- What the lines of turns say, those of layouts too, is heard as the records that they give.
-use Rattle.std.proofs.Common.{◌≡◌, ℕ, Option, Some, None, List, [], ◌∷◌, ◌++◌, map, flat_map, length, refl, ap, sym, ◌∙◌}
+use Rattle.std.proofs.Common.{◌≡◌, ℕ, zero, suc, Option, Some, None, List, [], ◌∷◌, ◌++◌, map, flat_map, length, refl, ap, sym, ◌∙◌}
 use Rattle.std.specs.Option.{option_and_then}
 use Rattle.std.specs.List.{AllByRecursion, range_with_len}
 use Rattle.crdt_rows.specs.AnyRow.{any_join}
@@ -28,9 +28,10 @@ use Rattle.store_model.specs.Run.{World, State, Outcome, start}
 use Rattle.store_model.specs.Events.{object_bytes, Turn, act_of, act_of_turn, outcome_of, run}
 use Rattle.audit_model.specs.declared.said.Said.{Said}
 use Rattle.audit_model.specs.Heard.{Heard, Asking, nothing_heard, heard, hears, hears_all, quiet, asking_of, accepts, tells}
-use Rattle.audit_laws.specs.Account.{record_told, records_told, blunt, began_record, began_of, IsOuterAct}
+use Rattle.audit_laws.specs.Account.{record_told, records_told, blunt, began_record, began_of, IsOuterAct, NoneGivenUp}
 use Rattle.audit_laws.specs.Told.{told_of, AreHeard, event_said, asked_by, IsAnswered, asked_after, CanBeHeard, TurnsCanBeHeard, requests_after}
 use Rattle.audit_laws.proofs.Account.{act_adds}
+use Rattle.audit_laws.proofs.GivenUp.{event_goes}
 use Rattle.audit_laws.proofs.Hearing.{hears_append, line_heard}
 use Rattle.audit_sheets.specs.Sheets.{sheet_said}
 use Rattle.audit_accounts.specs.Saying.{says_all, event_says_all, turns_say_all, shown_said, nodes_said, tail_said, transcript_says}
@@ -174,15 +175,15 @@ module _ (silent : SheetsAreQuiet) (events : List Numbered) where
       ∙ (lines_add silent events (asked_after asked e.event o) now o.lines ok.lines ∙ ap (λ h. Some (quiet (asked_after asked e.event o) h)) (append_assoc history (began_of (act_of e.event choice) o) (records_told o.lines)))
 
   -- the account that the lines of turns give is their history, but for the identifiers of superseded ends
-  pub turns_add : (asked : List (ℕ × Kind)) (s : State) (ts : List Turn) → TurnsCanBeHeard events asked s ts →
+  pub turns_add : (asked : List (ℕ × Kind)) (s : State) (ts : List Turn) → NoneGivenUp s.asked → TurnsCanBeHeard events asked s ts →
       hears_all events (quiet asked (map blunt s.history)) (turns_say_all s ts) ≡ Some (quiet (requests_after asked s ts) (map blunt (run s ts).history))
-  turns_add asked s [] ok = refl
-  turns_add asked s (t ∷ ts) ok =
+  turns_add asked s [] so ok = refl
+  turns_add asked s (t ∷ ts) so ok =
       let o : Outcome = outcome_of s t in
       let next : List (ℕ × Kind) = asked_after asked t.numbered.event o in
       hears_append events (quiet asked (map blunt s.history)) (quiet next (map blunt o.state.history)) (event_says_all t.numbered o) (turns_say_all o.state ts)
-      (event_adds asked (map blunt s.history) t.numbered t.choice o ok.0 ∙ ap (λ h. Some (quiet next h)) (sym (act_adds s (act_of_turn t) (outer t.numbered.event t.choice))))
-      ∙ turns_add next o.state ts ok.1
+      (event_adds asked (map blunt s.history) t.numbered t.choice o ok.0 ∙ ap (λ h. Some (quiet next h)) (sym (act_adds s (act_of_turn t) (outer t.numbered.event t.choice) so)))
+      ∙ turns_add next o.state ts (event_goes s t.numbered.event t.choice so) ok.1
 
 -- ---- what a transcript ends with
 
@@ -203,10 +204,15 @@ tail_lines events asked history w (n ∷ ns) =
 tail_adds : (events : List Numbered) (asked : List (ℕ × Kind)) (history : List Record) (n : ℕ) (s : State) → hears_all events (quiet asked history) (tail_said n s) ≡ Some (quiet asked history)
 tail_adds events asked history n s = unheard events asked history (tail_said n s) (both_all (λ x. hears events (quiet asked history) x ≡ Some (quiet asked history)) (nodes_said s.world) _ (tail_lines events asked history s.world (range_with_len 1 16)) (refl, tt))
 
+-- at the start there is no request
+none_at_start : NoneGivenUp start.asked
+none_at_start zero a flow is flow_is = cc
+none_at_start (suc q) a flow is flow_is = cc
+
 -- what a whole transcript says is heard as the history of its run, but for the identifiers of superseded ends
 pub transcript_adds : SheetsAreQuiet → (events : List Numbered) (ts : List Turn) → TurnsCanBeHeard events [] start ts →
     hears_all events nothing_heard (transcript_says ts) ≡ Some (quiet (requests_after [] start ts) (map blunt (run start ts).history))
 transcript_adds silent events ts ok =
     let last : State = run start ts in
-    hears_append events nothing_heard (quiet (requests_after [] start ts) (map blunt last.history)) (turns_say_all start ts) (tail_said (length ts) last) (turns_add silent events [] start ts ok)
+    hears_append events nothing_heard (quiet (requests_after [] start ts) (map blunt last.history)) (turns_say_all start ts) (tail_said (length ts) last) (turns_add silent events [] start ts none_at_start ok)
     ∙ tail_adds events (requests_after [] start ts) (map blunt last.history) (length ts) last

@@ -29,18 +29,18 @@ use Rattle.flow_model.specs.declared.flow.Wish.TheVariants as wish
 use Rattle.flow_model.specs.declared.flow.Aim.{Aim}
 use Rattle.flow_model.specs.declared.flow.Aim.TheVariants as aim
 use Rattle.flow_model.specs.declared.flow.Stage.{Stage}
-use Rattle.flow_model.specs.declared.flow.Stage.TheVariants.{Drawing, Uploading, Completing, Looking, Opening, Gathering, Listing}
+use Rattle.flow_model.specs.declared.flow.Stage.TheVariants.{Drawing, Uploading, Receiving, Aborting, Completing, Looking, Opening, Gathering, Listing}
 use Rattle.flow_model.specs.declared.flow.Flow.{Flow}
 use Rattle.flow_model.specs.declared.flow.FlowStep.{FlowStep}
-use Rattle.flow_model.specs.declared.flow.FlowStep.TheVariants.{More, Wait, End}
+use Rattle.flow_model.specs.declared.flow.FlowStep.TheVariants.{More, Need, Wait, End}
 use Rattle.flow_model.specs.declared.flow.FlowEnd.{FlowEnd}
-use Rattle.flow_model.specs.declared.flow.FlowEnd.TheVariants.{Stored, Found, Nothing, Listed, Superseded}
+use Rattle.flow_model.specs.declared.flow.FlowEnd.TheVariants.{Stored, Found, Nothing, Listed, Superseded, Aborted}
 use Rattle.flow_model.specs.Blocks.{has_piece, is_long}
 use Rattle.flow_model.specs.Flow.{started}
 use Rattle.flow_model.specs.Rows.{uploading, block_rows}
 use Rattle.flow_model.specs.Says.{Said, none, marked, inline, in_blocks, said_by, said_of, is_object, Named, unnamed, whole, deleted, named_by, shown_rows}
 use Rattle.flow_model.specs.Next.{drawn, stores, more, completes, writes, uploads, found, reads_on, looked, gathers, opened, lists, goes_on as flow_goes_on, next}
-use Rattle.store_model.specs.Answers.{Entry, with_entry, entries, lines_of, record_of, line_of}
+use Rattle.store_model.specs.Answers.{Entry, with_entry, entries, lines_of, record_of, lines_of_end}
 use Rattle.store_model.specs.Orders.{buckets_of}
 use Rattle.store_model.specs.Run.{Moving, State, Asked, Draw, Outcome, silent, refusal, plainly, effect, doing, are_buckets, phases, began_with, opened as opens_request, begins, draws_of, takes, follows, follow, goes_on, delivers, then_drains, drains}
 use Rattle.store_laws.proofs.Elements.{there}
@@ -88,9 +88,11 @@ end_keyed q (Found version meta body) = tt
 end_keyed q Nothing = tt
 end_keyed q (Listed rows) = tt
 end_keyed q (Superseded id) = tt
+end_keyed q Aborted = tt
 
 takes_keyed : (s : State) (q : ℕ) (a : Asked) (ds : List Draw) (st : FlowStep) → AreOfKeys s.history → AreOfKeys (takes s q a ds st).state.history
 takes_keyed s q a ds (More flow phase) h = h
+takes_keyed s q a ds (Need flow wanted) h = h
 takes_keyed s q a ds (Wait flow) h = h
 takes_keyed s q a ds (End end) h = and_keyed s.history (record_of q end ∷ []) h (end_keyed q end, tt)
 
@@ -168,25 +170,28 @@ abbrev StepWhole : FlowStep → Type 0
 StepWhole (End (Listed rows)) = AreKeyed rows
 StepWhole step = ⊤
 
-end_whole : (q : ℕ) (k : Kind) (end : FlowEnd) → StepWhole (End end) → IsKeyedLine (line_of q k end)
-end_whole q k (Stored version meta) h = tt
-end_whole q kind.Put (Found version meta body) h = tt
-end_whole q kind.Get (Found version meta body) h = tt
-end_whole q kind.Head (Found version meta body) h = tt
-end_whole q kind.Delete (Found version meta body) h = tt
-end_whole q kind.Copy (Found version meta body) h = tt
-end_whole q kind.List (Found version meta body) h = tt
-end_whole q k Nothing h = tt
-end_whole q k (Listed rows) h = entries_whole rows h
-end_whole q k (Superseded id) h = tt
+end_whole : (q : ℕ) (k : Kind) (end : FlowEnd) → StepWhole (End end) → AreKeyedLines (lines_of_end q k end)
+end_whole q k (Stored version meta) h = (tt, tt)
+end_whole q kind.Put (Found version meta body) h = (tt, tt)
+end_whole q kind.Get (Found version meta body) h = (tt, tt)
+end_whole q kind.Head (Found version meta body) h = (tt, tt)
+end_whole q kind.Delete (Found version meta body) h = (tt, tt)
+end_whole q kind.Copy (Found version meta body) h = (tt, tt)
+end_whole q kind.List (Found version meta body) h = (tt, tt)
+end_whole q k Nothing h = (tt, tt)
+end_whole q k (Listed rows) h = (entries_whole rows h, tt)
+end_whole q k (Superseded id) h = (tt, tt)
+end_whole q k Aborted h = tt
 
 module _ (id block : ℕ) where
   completes_whole : (name : Name) (v : Version) (w : Wish) → StepWhole (completes id block name v w)
   completes_whole name v wish.Marker = tt
+  completes_whole name v (wish.Stream coming) = tt
   completes_whole name v (wish.Content c) = tt
 
   writes_whole : (name : Name) (v : Version) (w : Wish) → StepWhole (writes id block name v w)
   writes_whole name v wish.Marker = tt
+  writes_whole name v (wish.Stream coming) = tt
   writes_whole name v (wish.Content c) =
       elim (is_long c.body) as (λ b. StepWhole (elim b as (λ b. FlowStep) [ true ↦ more id block (Uploading name v c 0) (stores (uploading name v)) | false ↦ completes id block name v (wish.Content c) ])) [
         | true ↦ tt
@@ -231,8 +236,9 @@ module _ (id block : ℕ) where
 
 takes_whole : (s : State) (q : ℕ) (a : Asked) (ds : List Draw) (st : FlowStep) → StepWhole st → AreKeyedLines (takes s q a ds st).lines
 takes_whole s q a ds (More flow phase) h = step_keyed s.world (phases q phase).step (phases q phase).choice
+takes_whole s q a ds (Need flow wanted) h = tt
 takes_whole s q a ds (Wait flow) h = tt
-takes_whole s q a ds (End end) h = (end_whole q a.kind end h, tt)
+takes_whole s q a ds (End end) h = end_whole q a.kind end h
 
 -- ---- a phase ended
 
@@ -258,6 +264,8 @@ module _ {H : List ℕ → Type 0} (every : EveryWorld H) where
         StepWhole (flow_goes_on id block stage end now)
     stage_whole id block (Drawing name w) (Answered value) now flow_is end = writes_whole id block name (drawn id value now) w
     stage_whole id block (Uploading name v c stored) Kept now flow_is end = uploads_whole id block name v c stored
+    stage_whole id block (Receiving name v coming received) Kept now flow_is end = tt
+    stage_whole id block (Aborting v) Kept now flow_is end = tt
     stage_whole id block (Completing v meta) Kept now flow_is end = tt
     stage_whole id block (Looking name aim) (Answered value) now flow_is end = looked_whole id block aim (said_of value)
     stage_whole id block (Opening v meta aim) (Answered value) now flow_is end = opened_whole id block aim v meta (named_by value meta.size)

@@ -43,12 +43,12 @@ use Rattle.history_model.specs.declared.record.Kind.TheVariants as kind
 use Rattle.flow_model.specs.declared.order.Order.{Order}
 use Rattle.flow_model.specs.declared.flow.Flow.{Flow}
 use Rattle.flow_model.specs.declared.flow.FlowStep.{FlowStep}
-use Rattle.flow_model.specs.declared.flow.FlowStep.TheVariants.{More, Wait, End}
+use Rattle.flow_model.specs.declared.flow.FlowStep.TheVariants.{More, Need, Wait, End}
 use Rattle.flow_model.specs.declared.flow.FlowEnd.{FlowEnd}
-use Rattle.flow_model.specs.declared.flow.FlowEnd.TheVariants.{Stored, Found, Nothing, Listed, Superseded}
+use Rattle.flow_model.specs.declared.flow.FlowEnd.TheVariants.{Stored, Found, Nothing, Listed, Superseded, Aborted}
 use Rattle.flow_model.specs.Flow.{started}
 use Rattle.flow_model.specs.Next.{next as next_of}
-use Rattle.store_model.specs.Answers.{line_of}
+use Rattle.store_model.specs.Answers.{lines_of_end}
 use Rattle.store_model.specs.Orders.{kind_of}
 use Rattle.store_model.specs.Run.{World, Moving, State, Asked, Draw, Outcome, silent, plainly, effect, doing, phases, new_request, opened, draws_of, takes, follows, follow, goes_on, delivers, then_drains, drains}
 use Rattle.store_model.specs.Acts.{plain, IsOuter}
@@ -244,27 +244,28 @@ set_known asked xs w q a flow at waits known =
 
 -- ---- requests that end
 
-line_fine : (asked : List (ℕ × Kind)) (q : ℕ) (k : Kind) (end : FlowEnd) → kind_at asked q ≡ Some k → IsEnd any_version any_number any_rows k end → IsFine asked (line_of q k end)
-line_fine asked q kind.Put (Stored version meta) e h = ((kind.Put, (e, refl)), tt)
-line_fine asked q kind.Delete (Stored version meta) e h = ((kind.Delete, (e, refl)), tt)
-line_fine asked q kind.Copy (Stored version meta) e h = ((kind.Copy, (e, refl)), tt)
-line_fine asked q kind.Get (Stored version meta) e h = absurd (let no : false ≡ true = h.0 in cc)
-line_fine asked q kind.Head (Stored version meta) e h = absurd (let no : false ≡ true = h.0 in cc)
-line_fine asked q kind.List (Stored version meta) e h = absurd (let no : false ≡ true = h.0 in cc)
-line_fine asked q kind.Get (Found version meta body) e h = ((kind.Get, (e, refl)), tt)
-line_fine asked q kind.Head (Found version meta body) e h = ((kind.Head, (e, refl)), tt)
-line_fine asked q kind.Put (Found version meta body) e h = absurd h
-line_fine asked q kind.Delete (Found version meta body) e h = absurd h
-line_fine asked q kind.Copy (Found version meta body) e h = absurd h
-line_fine asked q kind.List (Found version meta body) e h = absurd h
-line_fine asked q kind.Get Nothing e h = ((kind.Get, (e, refl)), (refl, refl))
-line_fine asked q kind.Head Nothing e h = ((kind.Head, (e, refl)), (refl, refl))
-line_fine asked q kind.Copy Nothing e h = ((kind.Copy, (e, refl)), (refl, refl))
-line_fine asked q kind.Put Nothing e h = absurd h
-line_fine asked q kind.Delete Nothing e h = absurd h
-line_fine asked q kind.List Nothing e h = absurd h
-line_fine asked q k (Listed rows) e h = (e ∙ ap (λ (x : Kind). Some x) h.0, tt)
-line_fine asked q k (Superseded id) e h = ((k, e), tt)
+end_fine : (asked : List (ℕ × Kind)) (q : ℕ) (k : Kind) (end : FlowEnd) → kind_at asked q ≡ Some k → IsEnd any_version any_number any_rows k end → AreFine asked (lines_of_end q k end)
+end_fine asked q kind.Put (Stored version meta) e h = (((kind.Put, (e, refl)), tt), tt)
+end_fine asked q kind.Delete (Stored version meta) e h = (((kind.Delete, (e, refl)), tt), tt)
+end_fine asked q kind.Copy (Stored version meta) e h = (((kind.Copy, (e, refl)), tt), tt)
+end_fine asked q kind.Get (Stored version meta) e h = absurd (let no : false ≡ true = h.0 in cc)
+end_fine asked q kind.Head (Stored version meta) e h = absurd (let no : false ≡ true = h.0 in cc)
+end_fine asked q kind.List (Stored version meta) e h = absurd (let no : false ≡ true = h.0 in cc)
+end_fine asked q kind.Get (Found version meta body) e h = (((kind.Get, (e, refl)), tt), tt)
+end_fine asked q kind.Head (Found version meta body) e h = (((kind.Head, (e, refl)), tt), tt)
+end_fine asked q kind.Put (Found version meta body) e h = absurd h
+end_fine asked q kind.Delete (Found version meta body) e h = absurd h
+end_fine asked q kind.Copy (Found version meta body) e h = absurd h
+end_fine asked q kind.List (Found version meta body) e h = absurd h
+end_fine asked q kind.Get Nothing e h = (((kind.Get, (e, refl)), (refl, refl)), tt)
+end_fine asked q kind.Head Nothing e h = (((kind.Head, (e, refl)), (refl, refl)), tt)
+end_fine asked q kind.Copy Nothing e h = (((kind.Copy, (e, refl)), (refl, refl)), tt)
+end_fine asked q kind.Put Nothing e h = absurd h
+end_fine asked q kind.Delete Nothing e h = absurd h
+end_fine asked q kind.List Nothing e h = absurd h
+end_fine asked q k (Listed rows) e h = ((e ∙ ap (λ (x : Kind). Some x) h.0, tt), tt)
+end_fine asked q k (Superseded id) e h = (((k, e), tt), tt)
+end_fine asked q k Aborted e h = tt
 
 -- ---- acts
 
@@ -282,10 +283,11 @@ module _ (stays : StaysSound) (asked : List (ℕ × Kind)) where
     known = set_known asked s.asked (next any_join words s.world (phases q phase)) q a (Some flow) at is (phase_known asked s.asked s.world known stays q phase);
     fine = step_fine asked s.asked s.world known (step.Phase q phase) (none_given VersionLimit);
   }
+  takes_known s q a draws (Need flow wanted) at is known = record { known = set_known asked s.asked s.world q a (Some flow) at is known; fine = tt }
   takes_known s q a draws (Wait flow) at is known = record { known = set_known asked s.asked s.world q a (Some flow) at is known; fine = tt }
   takes_known s q a draws (End end) at is known = record {
     known = set_known asked s.asked (next any_join words s.world (plainly (step.Close q))) q a None at tt (calm_known asked s.asked s.world known stays (plainly (step.Close q)) tt tt);
-    fine = (line_fine asked q a.kind end (known.kinds q a at) is, tt);
+    fine = end_fine asked q a.kind end (known.kinds q a at) is;
   }
 
   follows_known : (s : State) (q : ℕ) (a : Asked) (end : PhaseEnd AnyRow) (o : Option Flow) → numbered s.asked q ≡ Some a → WaitsAs a.kind o → KnownIn asked s → Out (follows s q a end o)

@@ -30,12 +30,12 @@ use Rattle.flow_model.specs.declared.order.Order.{Order}
 use Rattle.flow_model.specs.declared.order.Order.TheVariants as order
 use Rattle.flow_model.specs.declared.flow.Flow.{Flow}
 use Rattle.flow_model.specs.declared.flow.FlowStep.{FlowStep}
-use Rattle.flow_model.specs.declared.flow.FlowStep.TheVariants.{More, Wait, End}
+use Rattle.flow_model.specs.declared.flow.FlowStep.TheVariants.{More, Need, Wait, End}
 use Rattle.flow_model.specs.declared.flow.FlowEnd.{FlowEnd}
-use Rattle.flow_model.specs.declared.flow.FlowEnd.TheVariants.{Stored, Found, Nothing, Listed, Superseded}
+use Rattle.flow_model.specs.declared.flow.FlowEnd.TheVariants.{Stored, Found, Nothing, Listed, Superseded, Aborted}
 use Rattle.flow_model.specs.Flow.{started}
 use Rattle.flow_model.specs.Next.{next as next_of}
-use Rattle.store_model.specs.Answers.{line_of}
+use Rattle.store_model.specs.Answers.{lines_of_end}
 use Rattle.store_model.specs.Orders.{buckets_of}
 use Rattle.store_model.specs.declared.event.Event.{Event}
 use Rattle.store_model.specs.declared.event.Event.TheVariants.{Trio, Block, Bucket, Role as Stage, Redundancy, Apply, Tick, Skew, Put, Get, Head, Delete, Copy, List as Keys, Deliver, Lose, Drain, Expire, Restart, Gossip, Ack, Sync, SyncAck, Clean, Work, Repair}
@@ -61,22 +61,24 @@ step_orderly w st choice h = step_tells IsOrderlyLine (λ m. tt) (λ m a b k. tt
 
 -- ---- requests print no layout
 
-end_orderly : (q : ℕ) (k : Kind) (end : FlowEnd) → IsOrderlyLine (line_of q k end)
-end_orderly q k (Stored version meta) = tt
-end_orderly q kind.Put (Found version meta body) = tt
-end_orderly q kind.Get (Found version meta body) = tt
-end_orderly q kind.Head (Found version meta body) = tt
-end_orderly q kind.Delete (Found version meta body) = tt
-end_orderly q kind.Copy (Found version meta body) = tt
-end_orderly q kind.List (Found version meta body) = tt
-end_orderly q k Nothing = tt
-end_orderly q k (Listed rows) = tt
-end_orderly q k (Superseded id) = tt
+end_orderly : (q : ℕ) (k : Kind) (end : FlowEnd) → AreOrderly (lines_of_end q k end)
+end_orderly q k (Stored version meta) = (tt, tt)
+end_orderly q kind.Put (Found version meta body) = (tt, tt)
+end_orderly q kind.Get (Found version meta body) = (tt, tt)
+end_orderly q kind.Head (Found version meta body) = (tt, tt)
+end_orderly q kind.Delete (Found version meta body) = (tt, tt)
+end_orderly q kind.Copy (Found version meta body) = (tt, tt)
+end_orderly q kind.List (Found version meta body) = (tt, tt)
+end_orderly q k Nothing = (tt, tt)
+end_orderly q k (Listed rows) = (tt, tt)
+end_orderly q k (Superseded id) = (tt, tt)
+end_orderly q k Aborted = tt
 
 takes_orderly : (s : State) (q : ℕ) (a : Asked) (ds : List Draw) (st : FlowStep) → AreOrderly (takes s q a ds st).lines
 takes_orderly s q a ds (More flow phase) = step_orderly s.world (step.Phase q phase) (none_given VersionLimit) tt
+takes_orderly s q a ds (Need flow wanted) = tt
 takes_orderly s q a ds (Wait flow) = tt
-takes_orderly s q a ds (End end) = (end_orderly q a.kind end, tt)
+takes_orderly s q a ds (End end) = end_orderly q a.kind end
 
 follows_orderly : (s : State) (q : ℕ) (a : Asked) (end : PhaseEnd AnyRow) (flow : Option Flow) → AreOrderly (follows s q a end flow).lines
 follows_orderly s q a end None = tt

@@ -37,10 +37,10 @@ use Rattle.limit_laws.proofs.States.{AskedFits, StateFits, asked_later}
 use Rattle.history_model.specs.declared.record.Kind.{Kind}
 use Rattle.flow_model.specs.declared.order.Order.{Order}
 use Rattle.flow_model.specs.declared.flow.Stage.{Stage}
-use Rattle.flow_model.specs.declared.flow.Stage.TheVariants.{Drawing, Uploading, Completing, Looking, Opening, Gathering, Listing}
+use Rattle.flow_model.specs.declared.flow.Stage.TheVariants.{Drawing, Uploading, Receiving, Needing, Aborting, Completing, Looking, Opening, Gathering, Listing}
 use Rattle.flow_model.specs.declared.flow.Flow.{Flow}
 use Rattle.flow_model.specs.declared.flow.FlowStep.{FlowStep}
-use Rattle.flow_model.specs.declared.flow.FlowStep.TheVariants.{More, Wait, End}
+use Rattle.flow_model.specs.declared.flow.FlowStep.TheVariants.{More, Need, Wait, End}
 use Rattle.flow_model.specs.Flow.{started}
 use Rattle.flow_model.specs.Next.{next as next_of}
 use Rattle.store_model.specs.Orders.{buckets_of}
@@ -51,7 +51,7 @@ use Rattle.audit_accounts.proofs.Flows.{IsNext, next_is, started_is}
 use Rattle.audit_accounts.proofs.Worlds.{LineFits, LinesFit, AnswerFits, WorldNamed, IsSmall, step_named, next_named}
 use Rattle.audit_accounts.proofs.Views.{views_named}
 use Rattle.audit_accounts.proofs.Windows.{WindowFits, receives_shown}
-use Rattle.audit_accounts.proofs.Values.{VersionFits, ListFits, StageNumbered, gives_numbers, line_numbers}
+use Rattle.audit_accounts.proofs.Values.{VersionFits, ListFits, StageNumbered, gives_numbers, end_numbers}
 
 -- ---- requests
 
@@ -69,6 +69,9 @@ list_later most more up rows h = let low = h.1 in (h.0, omega arith)
 stage_later : (most more : ℕ) → most ≤ more → (k : Kind) (stage : Stage) → StageNumbered most k stage → StageNumbered more k stage
 stage_later most more up k (Drawing name w) h = h
 stage_later most more up k (Uploading name version c stored) h = h
+stage_later most more up k (Receiving name version coming received) h = h
+stage_later most more up k (Needing name version coming received) h = h
+stage_later most more up k (Aborting version) h = h
 stage_later most more up k (Completing version meta) h = h
 stage_later most more up k (Looking name a) h = h
 stage_later most more up k (Opening version meta a) h = h
@@ -152,10 +155,11 @@ module _ (facts : Facts) (stays : StaysSound any_join words) where
     takes_numbers q a draws (More flow phase) at number is room keyed =
         let effects = step_named k k (omega arith) (omega arith) s.world named now_small (step.Phase q phase) (none_given VersionLimit) tt tt tt in
         record { lines = effects.lines (sent_few s.world (phases q phase) room.0); named = next_named k k (omega arith) (omega arith) s.world named now_small (effect s (phases q phase)) effects; lists = set_numbered more s.asked q a (Some flow) at is lists_now }
+    takes_numbers q a draws (Need flow wanted) at number is room keyed = record { lines = tt; named = named; lists = set_numbered more s.asked q a (Some flow) at is lists_now }
     takes_numbers q a draws (Wait flow) at number is room keyed = record { lines = tt; named = named; lists = set_numbered more s.asked q a (Some flow) at is lists_now }
     takes_numbers q a draws (End end) at number is room keyed =
         let effects = step_named k k (omega arith) (omega arith) s.world named now_small (step.Close q) (none_given VersionLimit) tt tt tt in
-        record { lines = (line_numbers more q a.kind end high number is keyed.0, tt); named = next_named k k (omega arith) (omega arith) s.world named now_small (effect s (plainly (step.Close q))) effects; lists = set_numbered more s.asked q a None at tt lists_now }
+        record { lines = end_numbers more q a.kind end high number is keyed; named = next_named k k (omega arith) (omega arith) s.world named now_small (effect s (plainly (step.Close q))) effects; lists = set_numbered more s.asked q a None at tt lists_now }
 
   module _ (t k b most : ℕ) (v : Drawn) (s : State) (top : k ≤ 27000000000000) (high : most + 2000 < 2 ^ 64) (fits : StateFits t k b v s) (named : WorldNamed k s.world) (lists : AreNumbered most s.asked) where
     abbrev Then : Outcome → Type 0

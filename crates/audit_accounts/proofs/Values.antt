@@ -23,18 +23,18 @@ use Rattle.wire_messages.specs.declared.phase.PhaseEnd.TheVariants.{Row, Window,
 use Rattle.history_model.specs.declared.record.Kind.{Kind}
 use Rattle.history_model.specs.declared.record.Kind.TheVariants as kind
 use Rattle.flow_model.specs.declared.flow.Stage.{Stage}
-use Rattle.flow_model.specs.declared.flow.Stage.TheVariants.{Drawing, Uploading, Completing, Looking, Opening, Gathering, Listing}
+use Rattle.flow_model.specs.declared.flow.Stage.TheVariants.{Drawing, Uploading, Receiving, Needing, Aborting, Completing, Looking, Opening, Gathering, Listing}
 use Rattle.flow_model.specs.declared.flow.FlowEnd.{FlowEnd}
-use Rattle.flow_model.specs.declared.flow.FlowEnd.TheVariants.{Stored, Found, Nothing, Listed, Superseded}
+use Rattle.flow_model.specs.declared.flow.FlowEnd.TheVariants.{Stored, Found, Nothing, Listed, Superseded, Aborted as WasAborted}
 use Rattle.flow_model.specs.Says.{Said, none, marked, inline, in_blocks, of_state, of_version, said_of, said_by, is_shown, object_rows, shown_rows}
-use Rattle.store_model.specs.Answers.{Entry, with_entry, entries, lines_of, line_of}
+use Rattle.store_model.specs.Answers.{Entry, with_entry, entries, lines_of, lines_of_end}
 use Rattle.limit_rows.specs.Fitting.{Drawn, AreWithin, StateFits, RowFits}
 use Rattle.limit_laws.proofs.Flows.{StageFits, EndFits, row_greatest}
 use Rattle.audit_model.specs.Lines.{IsNumber, AreNumbers, IsInRange}
 use Rattle.audit_laws.specs.Told.{key_said}
 use Rattle.audit_accounts.specs.Saying.{KeysAre, IsKeyedLine}
 use Rattle.audit_accounts.proofs.Flows.{IsSaid, IsStage, IsEnd, Gives}
-use Rattle.audit_accounts.proofs.Worlds.{LineFits}
+use Rattle.audit_accounts.proofs.Worlds.{LinesFit}
 use Rattle.audit_accounts.proofs.Windows.{WindowFits}
 
 -- a version's numbers
@@ -115,6 +115,9 @@ gives_numbers t v within most id now low early k (Drawing name w) (Window rs end
 gives_numbers t v within most id now low early k (Drawing name w) Kept is f h g = tt
 gives_numbers t v within most id now low early k (Drawing name w) (Block bytes) is f h g = tt
 gives_numbers t v within most id now low early k (Uploading name version c stored) end is f h g = tt
+gives_numbers t v within most id now low early k (Receiving name version coming received) end is f h g = tt
+gives_numbers t v within most id now low early k (Needing name version coming received) end is f h g = tt
+gives_numbers t v within most id now low early k (Aborting version) end is f h g = tt
 gives_numbers t v within most id now low early k (Completing version meta) end is f h g = tt
 gives_numbers t v within most id now low early k (Looking name a) (Window rs end) is f h g = tt
 gives_numbers t v within most id now low early k (Looking name a) Kept is f h g = tt
@@ -176,25 +179,26 @@ keys_fit : (keys : List (List ℕ × ℕ × ℕ × ℕ)) → AllByRecursion KeyN
 keys_fit [] h k = tt
 keys_fit (x ∷ xs) h k = ((h.0, k.0), keys_fit xs h.1 k.1)
 
--- the line of a request that ends so
-pub line_numbers : (most q : ℕ) (k : Kind) (end : FlowEnd) → most < 2 ^ 64 → IsNumber q → IsEnd VersionFits IsNumber (ListFits most) k end → IsKeyedLine (line_of q k end) → LineFits (line_of q k end)
-line_numbers most q kind.Put (Stored version meta) top number h keyed = (((number, (h.1.0, (h.1.1, tt))), tt), tt)
-line_numbers most q kind.Delete (Stored version meta) top number h keyed = (((number, (h.1.0, (h.1.1, tt))), tt), tt)
-line_numbers most q kind.Copy (Stored version meta) top number h keyed = (((number, (h.1.0, (h.1.1, tt))), tt), tt)
-line_numbers most q kind.Get (Stored version meta) top number h keyed = absurd (let no : false ≡ true = h.0 in cc)
-line_numbers most q kind.Head (Stored version meta) top number h keyed = absurd (let no : false ≡ true = h.0 in cc)
-line_numbers most q kind.List (Stored version meta) top number h keyed = absurd (let no : false ≡ true = h.0 in cc)
-line_numbers most q kind.Get (Found version meta body) top number h keyed = (((number, (h.0.0, (h.0.1, tt))), (h.1, length-md5 body, bytes_are (md5 body) (md5_bytes body))), tt)
-line_numbers most q kind.Head (Found version meta body) top number h keyed = (((number, (h.0.0, (h.0.1, tt))), h.1), tt)
-line_numbers most q kind.Put (Found version meta body) top number h keyed = absurd h
-line_numbers most q kind.Delete (Found version meta body) top number h keyed = absurd h
-line_numbers most q kind.Copy (Found version meta body) top number h keyed = absurd h
-line_numbers most q kind.List (Found version meta body) top number h keyed = absurd h
-line_numbers most q kind.Get Nothing top number h keyed = (((number, tt), tt), tt)
-line_numbers most q kind.Head Nothing top number h keyed = (((number, tt), tt), tt)
-line_numbers most q kind.Copy Nothing top number h keyed = (((number, tt), tt), tt)
-line_numbers most q kind.Put Nothing top number h keyed = absurd h
-line_numbers most q kind.Delete Nothing top number h keyed = absurd h
-line_numbers most q kind.List Nothing top number h keyed = absurd h
-line_numbers most q k (Listed rs) top number h keyed = let few = rows_few rs in let low = h.1.1 in ((number, (omega (arith, few, low, top), tt)), keys_fit (lines_of (entries rs)) (rows_numbers rs h.1.0) keyed)
-line_numbers most q k (Superseded id) top number h keyed = (number, tt)
+-- the lines of a request that ends so
+pub end_numbers : (most q : ℕ) (k : Kind) (end : FlowEnd) → most < 2 ^ 64 → IsNumber q → IsEnd VersionFits IsNumber (ListFits most) k end → AllByRecursion IsKeyedLine (lines_of_end q k end) → LinesFit (lines_of_end q k end)
+end_numbers most q kind.Put (Stored version meta) top number h keyed = ((((number, (h.1.0, (h.1.1, tt))), tt), tt), tt)
+end_numbers most q kind.Delete (Stored version meta) top number h keyed = ((((number, (h.1.0, (h.1.1, tt))), tt), tt), tt)
+end_numbers most q kind.Copy (Stored version meta) top number h keyed = ((((number, (h.1.0, (h.1.1, tt))), tt), tt), tt)
+end_numbers most q kind.Get (Stored version meta) top number h keyed = absurd (let no : false ≡ true = h.0 in cc)
+end_numbers most q kind.Head (Stored version meta) top number h keyed = absurd (let no : false ≡ true = h.0 in cc)
+end_numbers most q kind.List (Stored version meta) top number h keyed = absurd (let no : false ≡ true = h.0 in cc)
+end_numbers most q kind.Get (Found version meta body) top number h keyed = ((((number, (h.0.0, (h.0.1, tt))), (h.1, length-md5 body, bytes_are (md5 body) (md5_bytes body))), tt), tt)
+end_numbers most q kind.Head (Found version meta body) top number h keyed = ((((number, (h.0.0, (h.0.1, tt))), h.1), tt), tt)
+end_numbers most q kind.Put (Found version meta body) top number h keyed = absurd h
+end_numbers most q kind.Delete (Found version meta body) top number h keyed = absurd h
+end_numbers most q kind.Copy (Found version meta body) top number h keyed = absurd h
+end_numbers most q kind.List (Found version meta body) top number h keyed = absurd h
+end_numbers most q kind.Get Nothing top number h keyed = ((((number, tt), tt), tt), tt)
+end_numbers most q kind.Head Nothing top number h keyed = ((((number, tt), tt), tt), tt)
+end_numbers most q kind.Copy Nothing top number h keyed = ((((number, tt), tt), tt), tt)
+end_numbers most q kind.Put Nothing top number h keyed = absurd h
+end_numbers most q kind.Delete Nothing top number h keyed = absurd h
+end_numbers most q kind.List Nothing top number h keyed = absurd h
+end_numbers most q k (Listed rs) top number h keyed = let few = rows_few rs in let low = h.1.1 in (((number, (omega (arith, few, low, top), tt)), keys_fit (lines_of (entries rs)) (rows_numbers rs h.1.0) keyed.0), tt)
+end_numbers most q k (Superseded id) top number h keyed = ((number, tt), tt)
+end_numbers most q k WasAborted top number h keyed = tt

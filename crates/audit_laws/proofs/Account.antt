@@ -36,15 +36,17 @@ use Rattle.history_model.specs.declared.record.Cause.TheVariants.{Restarted as W
 use Rattle.flow_model.specs.declared.order.Order.{Order}
 use Rattle.flow_model.specs.declared.flow.Flow.{Flow}
 use Rattle.flow_model.specs.declared.flow.FlowStep.{FlowStep}
-use Rattle.flow_model.specs.declared.flow.FlowStep.TheVariants.{More, Wait, End}
+use Rattle.flow_model.specs.declared.flow.FlowStep.TheVariants.{More, Need, Wait, End}
 use Rattle.flow_model.specs.declared.flow.FlowEnd.{FlowEnd}
-use Rattle.flow_model.specs.declared.flow.FlowEnd.TheVariants.{Stored, Found, Nothing, Listed, Superseded}
+use Rattle.flow_model.specs.declared.flow.FlowEnd.TheVariants.{Stored, Found, Nothing, Listed, Superseded, Aborted}
 use Rattle.flow_model.specs.Next.{next}
-use Rattle.store_model.specs.Answers.{Entry, entries, versions_of, lines_of, record_of, line_of}
+use Rattle.flow_model.specs.Streams.{Step as FedStep, fed, finished, given_up}
+use Rattle.store_model.specs.Answers.{Entry, entries, versions_of, lines_of, record_of, lines_of_end}
 use Rattle.store_model.specs.Orders.{buckets_of}
-use Rattle.store_model.specs.Run.{World, Moving, State, Asked, Draw, Outcome, silent, refusal, plainly, effect, doing, opened, begins as begins_at, draws_of, goes, takes, follows, follow, goes_on, delivers, then_drains, drains, are_buckets}
-use Rattle.store_model.specs.Acts.{Act, moves, installs, asks, delivery, drain, forgets, takes as takes_end, adds, cuts, endings, plain, acted, IsOuter}
-use Rattle.audit_laws.specs.Account.{key_version, record_told, records_told, blunt, began_of, IsOuterAct}
+use Rattle.store_model.specs.Run.{World, Moving, State, Asked, Draw, Outcome, silent, refusal, plainly, effect, doing, opened, begins as begins_at, draws_of, goes, takes, follows, follow, goes_on, delivers, then_drains, drains, are_buckets, hears, heard_in, heard, fills_at}
+use Rattle.store_model.specs.Acts.{Act, moves, installs, asks, delivery, drain, forgets, takes as takes_end, adds, cuts, feeds, keeps, gives_up, endings, plain, acted, IsOuter}
+use Rattle.audit_laws.specs.Account.{key_version, record_told, records_told, blunt, began_of, IsOuterAct, IsNotGivenUp, NoneGivenUp}
+use Rattle.audit_laws.proofs.GivenUp.{IsNoGivingUp, next_goes, delivers_goes}
 
 pub told_append : (a b : List (Line Applied)) → records_told (a ++ b) ≡ records_told a ++ records_told b
 told_append [] b = refl
@@ -159,18 +161,19 @@ keys_told : (es : List Entry) → map key_version (lines_of es) ≡ versions_of 
 keys_told [] = refl
 keys_told (e ∷ es) = ap (λ vs. (e.key, e.version) ∷ vs) (keys_told es)
 
--- the line of a request that ended gives its record
-line_told : (q : ℕ) (k : Kind) (end : FlowEnd) → records_told (line_of q k end ∷ []) ≡ blunt (record_of q end) ∷ []
-line_told q k (Stored version meta) = refl
-line_told q kind.Put (Found version meta body) = refl
-line_told q kind.Get (Found version meta body) = refl
-line_told q kind.Head (Found version meta body) = refl
-line_told q kind.Delete (Found version meta body) = refl
-line_told q kind.Copy (Found version meta body) = refl
-line_told q kind.List (Found version meta body) = refl
-line_told q k Nothing = refl
-line_told q k (Listed rows) = ap (λ vs. Finished q (answer.Listed vs) ∷ []) (keys_told (entries rows))
-line_told q k (Superseded id) = refl
+-- the line of a request that ended, and wasn't given up, gives its record
+end_told : (q : ℕ) (k : Kind) (end : FlowEnd) → IsNoGivingUp (End end) → records_told (lines_of_end q k end) ≡ blunt (record_of q end) ∷ []
+end_told q k (Stored version meta) so = refl
+end_told q kind.Put (Found version meta body) so = refl
+end_told q kind.Get (Found version meta body) so = refl
+end_told q kind.Head (Found version meta body) so = refl
+end_told q kind.Delete (Found version meta body) so = refl
+end_told q kind.Copy (Found version meta body) so = refl
+end_told q kind.List (Found version meta body) so = refl
+end_told q k Nothing so = refl
+end_told q k (Listed rows) so = ap (λ vs. Finished q (answer.Listed vs) ∷ []) (keys_told (entries rows))
+end_told q k (Superseded id) so = refl
+end_told q k Aborted so = absurd so
 
 -- what an outcome adds to the history its lines give, after these records
 abbrev pub Adds : State → List Record → Outcome → Type 0
@@ -180,44 +183,63 @@ Adds s first o = map blunt o.state.history ≡ map blunt s.history ++ (first ++ 
 same_adds : (s : State) (o : Outcome) → o.state.history ≡ s.history → records_told o.lines ≡ [] → Adds s [] o
 same_adds s o e none = ap (map blunt) e ∙ (sym (append-nil (map blunt s.history)) ∙ ap (λ rs. map blunt s.history ++ rs) (sym none))
 
-takes_adds : (s : State) (q : ℕ) (a : Asked) (draws : List Draw) (does : FlowStep) → Adds s [] (takes s q a draws does)
-takes_adds s q a draws (More flow phase) = same_adds s (goes s q a draws flow phase) refl (beginning_quiet s.world q phase (numbered s.world.requests q))
-takes_adds s q a draws (Wait flow) = same_adds s (takes s q a draws (Wait flow)) refl refl
-takes_adds s q a draws (End end) = blunt_append s.history (record_of q end ∷ []) ∙ ap (λ rs. map blunt s.history ++ rs) (sym (line_told q a.kind end))
+goes_adds : (s : State) (q : ℕ) (a : Asked) (draws : List Draw) (flow : Flow) (phase : Phase AnyRow) → Adds s [] (goes s q a draws flow phase)
+goes_adds s q a draws flow phase = same_adds s (goes s q a draws flow phase) refl (beginning_quiet s.world q phase (numbered s.world.requests q))
 
-follows_adds : (s : State) (q : ℕ) (a : Asked) (end : PhaseEnd AnyRow) (o : Option Flow) → Adds s [] (follows s q a end o)
-follows_adds s q a end None = same_adds s (silent s) refl refl
-follows_adds s q a end (Some flow) =
-    let now = clock s.world a.node in takes_adds (record s { saw = record { request = q; end = end } ∷ s.saw }) q a (draws_of s q flow.block flow.stage end now) (next flow end now)
+takes_adds : (s : State) (q : ℕ) (a : Asked) (draws : List Draw) (does : FlowStep) → IsNoGivingUp does → Adds s [] (takes s q a draws does)
+takes_adds s q a draws (More flow phase) so = goes_adds s q a draws flow phase
+takes_adds s q a draws (Need flow wanted) so = same_adds s (takes s q a draws (Need flow wanted)) refl refl
+takes_adds s q a draws (Wait flow) so = same_adds s (takes s q a draws (Wait flow)) refl refl
+takes_adds s q a draws (End end) so = blunt_append s.history (record_of q end ∷ []) ∙ ap (λ rs. map blunt s.history ++ rs) (sym (end_told q a.kind end so))
 
-follow_adds : (s : State) (q : ℕ) (a : Option Asked) (end : PhaseEnd AnyRow) → Adds s [] (follow s q a end)
-follow_adds s q None end = same_adds s (silent s) refl refl
-follow_adds s q (Some a) end = follows_adds s q a end a.flow
+follows_adds : (s : State) (q : ℕ) (a : Asked) (end : PhaseEnd AnyRow) (o : Option Flow) → ((f : Flow) → o ≡ Some f → IsNotGivenUp f.stage) → Adds s [] (follows s q a end o)
+follows_adds s q a end None so = same_adds s (silent s) refl refl
+follows_adds s q a end (Some flow) so =
+    let now = clock s.world a.node in
+    takes_adds (record s { saw = record { request = q; end = end } ∷ s.saw }) q a (draws_of s q flow.block flow.stage end now) (next flow end now) (next_goes flow end now (so flow refl))
 
-goes_on_adds : (s : State) (ends : List (Ended AnyRow)) → Adds s [] (goes_on s ends)
-goes_on_adds s [] = same_adds s (silent s) refl refl
-goes_on_adds s (e ∷ es) = follow_adds s e.request (numbered s.asked e.request) e.how
+follow_adds : (s : State) (q : ℕ) (a : Option Asked) (end : PhaseEnd AnyRow) → numbered s.asked q ≡ a → NoneGivenUp s.asked → Adds s [] (follow s q a end)
+follow_adds s q None end at so = same_adds s (silent s) refl refl
+follow_adds s q (Some a) end at so = follows_adds s q a end a.flow (λ f is. so q a f at is)
 
-delivers_adds : (s : State) (m : ℕ) → Adds s [] (delivers s m)
-delivers_adds s m =
+goes_on_adds : (s : State) (ends : List (Ended AnyRow)) → NoneGivenUp s.asked → Adds s [] (goes_on s ends)
+goes_on_adds s [] so = same_adds s (silent s) refl refl
+goes_on_adds s (e ∷ es) so = follow_adds s e.request (numbered s.asked e.request) e.how refl so
+
+delivers_adds : (s : State) (m : ℕ) → NoneGivenUp s.asked → Adds s [] (delivers s m)
+delivers_adds s m so =
     let d : Moving = plainly (Deliver m) in
     let e : Effect AnyRow = effect s d in
     let o : Outcome = goes_on (doing s d) e.ends in
     let lines : records_told (e.tells ++ o.lines) ≡ records_told o.lines = told_append e.tells o.lines ∙ ap (λ rs. rs ++ records_told o.lines) (deliver_quiet s.world m d.choice) in
-    goes_on_adds (doing s d) e.ends ∙ ap (λ rs. map blunt s.history ++ rs) (sym lines)
+    goes_on_adds (doing s d) e.ends so ∙ ap (λ rs. map blunt s.history ++ rs) (sym lines)
 
-drains_adds : (n : ℕ) (s : State) → Adds s [] (drains n s)
-drains_adds zero s = same_adds s (silent s) refl refl
-drains_adds (suc n) s =
+drains_adds : (n : ℕ) (s : State) → NoneGivenUp s.asked → Adds s [] (drains n s)
+drains_adds zero s so = same_adds s (silent s) refl refl
+drains_adds (suc n) s so =
     elim (undelivered s.world) as (λ o. Adds s [] (elim o as (λ o. Outcome) [ None ↦ silent s | Some m ↦ let o = delivers s m in then_drains o (drains n o.state) ])) [
       | None ↦ same_adds s (silent s) refl refl
       | Some m ↦
           let first : Outcome = delivers s m in
           let rest : Outcome = drains n first.state in
-          drains_adds n first.state
-          ∙ (ap (λ rs. rs ++ records_told rest.lines) (delivers_adds s m)
+          drains_adds n first.state (delivers_goes s m so)
+          ∙ (ap (λ rs. rs ++ records_told rest.lines) (delivers_adds s m so)
           ∙ (append_assoc (map blunt s.history) (records_told first.lines) (records_told rest.lines) ∙ ap (λ rs. map blunt s.history ++ rs) (sym (told_append first.lines rest.lines))))
     ]
+
+-- ---- streamed uploads whose client was heard
+
+hears_adds : (s : State) (q : ℕ) (a : Asked) (next : FedStep) → Adds s [] (hears s q a next)
+hears_adds s q a None = same_adds s (silent s) refl refl
+hears_adds s q a (Some next) = goes_adds s q a [] next.0 next.1
+
+heard_in_adds : (s : State) (q : ℕ) (says : Flow → FedStep) (a : Asked) (o : Option Flow) → Adds s [] (heard_in s q says a o)
+heard_in_adds s q says a None = same_adds s (silent s) refl refl
+heard_in_adds s q says a (Some flow) = hears_adds s q a (says flow)
+
+heard_adds : (s : State) (q : ℕ) (says : Flow → FedStep) (o : Option Asked) → Adds s [] (heard s q says o)
+heard_adds s q says None = same_adds s (silent s) refl refl
+heard_adds s q says (Some a) = heard_in_adds s q says a a.flow
 
 -- ---- requests that begin
 
@@ -250,13 +272,16 @@ plain_adds s m outer =
     blunt_append s.history (endings m.step e) ∙ ap (λ rs. map blunt s.history ++ rs) (sym (step_ends s.world m.step m.choice outer))
 
 -- the records that an act adds are those that its event's line names and its lines give
-pub act_adds : (s : State) (a : Act) → IsOuterAct a → Adds s (began_of a (acted s a)) (acted s a)
-act_adds s (moves m) h = plain_adds s m h
-act_adds s (installs first) h = same_adds s (acted s (installs first)) refl refl
-act_adds s (asks n order) h = begins_adds s n order
-act_adds s (delivery m) h = delivers_adds s m
-act_adds s (drain n) h = drains_adds n s
-act_adds s forgets h = same_adds s (acted s forgets) refl refl
-act_adds s (takes_end q) h = same_adds s (acted s (takes_end q)) refl refl
-act_adds s (adds name) h = same_adds s (acted s (adds name)) refl refl
-act_adds s (cuts block) h = same_adds s (acted s (cuts block)) refl refl
+pub act_adds : (s : State) (a : Act) → IsOuterAct a → NoneGivenUp s.asked → Adds s (began_of a (acted s a)) (acted s a)
+act_adds s (moves m) h so = plain_adds s m h
+act_adds s (installs first) h so = same_adds s (acted s (installs first)) refl refl
+act_adds s (asks n order) h so = begins_adds s n order
+act_adds s (delivery m) h so = delivers_adds s m so
+act_adds s (drain n) h so = drains_adds n s so
+act_adds s forgets h so = same_adds s (acted s forgets) refl refl
+act_adds s (takes_end q) h so = same_adds s (acted s (takes_end q)) refl refl
+act_adds s (adds name) h so = same_adds s (acted s (adds name)) refl refl
+act_adds s (cuts block) h so = same_adds s (acted s (cuts block)) refl refl
+act_adds s (feeds q bytes) h so = heard_adds s q (λ flow. fed flow bytes) (numbered s.asked q)
+act_adds s (keeps q) h so = heard_adds (record s { draws = fills_at s q (numbered s.asked q) ++ s.draws }) q finished (numbered s.asked q)
+act_adds s (gives_up q) h so = heard_adds s q given_up (numbered s.asked q)

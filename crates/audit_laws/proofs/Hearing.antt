@@ -23,7 +23,8 @@ use Rattle.store_model.specs.Events.{Turn, act_of, act_of_turn, outcome_of, run}
 use Rattle.audit_model.specs.declared.said.Said.{Said}
 use Rattle.audit_model.specs.Heard.{Heard, hears, hears_all, quiet, comes, asking_of, tells}
 use Rattle.audit_laws.proofs.Account.{act_adds}
-use Rattle.audit_laws.specs.Account.{key_version, record_told, records_told, blunt, began_of, IsOuterAct}
+use Rattle.audit_laws.proofs.GivenUp.{event_goes}
+use Rattle.audit_laws.specs.Account.{key_version, record_told, records_told, blunt, began_of, IsOuterAct, NoneGivenUp}
 use Rattle.audit_laws.specs.Told.{key_said, saids_of, told_of, IsHeard, AreHeard, event_said, event_saids, asked_by, IsAnswered, asked_after, CanBeHeard, TurnsCanBeHeard, turns_say, requests_after}
 
 the_same : (events : List Numbered) (h next : Heard) (b : List Said) → Some h ≡ Some next → hears_all events h b ≡ hears_all events next b
@@ -209,10 +210,10 @@ outer (event.Work n) choice = tt
 outer (event.Repair n) choice = tt
 
 -- the account that the lines of turns give is their history, but for the identifiers of superseded ends
-pub turns_heard : (events : List Numbered) (asked : List (ℕ × Kind)) (s : State) (ts : List Turn) → TurnsCanBeHeard events asked s ts →
+pub turns_heard : (events : List Numbered) (asked : List (ℕ × Kind)) (s : State) (ts : List Turn) → NoneGivenUp s.asked → TurnsCanBeHeard events asked s ts →
     hears_all events (quiet asked (map blunt s.history)) (turns_say s ts) ≡ Some (quiet (requests_after asked s ts) (map blunt (run s ts).history))
-turns_heard events asked s [] ok = refl
-turns_heard events asked s (t ∷ ts) ok =
+turns_heard events asked s [] so ok = refl
+turns_heard events asked s (t ∷ ts) so ok =
     let o : Outcome = outcome_of s t in
     let e : Numbered = t.numbered in
     let next : List (ℕ × Kind) = asked_after asked e.event o in
@@ -222,5 +223,5 @@ turns_heard events asked s (t ∷ ts) ok =
     (quiet next (map blunt o.state.history))
     (event_saids e o)
     (turns_say o.state ts)
-    (event_heard events asked (map blunt s.history) e t.choice o ok.0 ∙ ap (λ h. Some (quiet next h)) (sym (act_adds s (act_of_turn t) (outer e.event t.choice))))
-    ∙ turns_heard events next o.state ts ok.1
+    (event_heard events asked (map blunt s.history) e t.choice o ok.0 ∙ ap (λ h. Some (quiet next h)) (sym (act_adds s (act_of_turn t) (outer e.event t.choice) so)))
+    ∙ turns_heard events next o.state ts (event_goes s e.event t.choice so) ok.1

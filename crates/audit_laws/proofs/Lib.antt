@@ -1,4 +1,5 @@
 pub mod Shown
+pub mod GivenUp
 pub mod Account
 pub mod Blunt
 pub mod Spelled

@@ -1,5 +1,5 @@
 -- The records that the lines of a run give, before they are text.
-use Rattle.std.specs.Prelude.{ℕ, Some, None, List, [], ◌∷◌, ◌++◌, map, ⊤}
+use Rattle.std.specs.Prelude.{◌≡◌, ℕ, Some, None, List, [], ◌∷◌, ◌++◌, map, ⊤}
 use Rattle.cluster_machine.specs.declared.applied.Applied.{Applied}
 use Rattle.cluster_machine.specs.declared.line.Line.{Line}
 use Rattle.cluster_machine.specs.declared.line.Line.TheVariants.{Done, Listed, Ended}
@@ -9,12 +9,16 @@ use Rattle.history_model.specs.declared.record.Cause.{Cause}
 use Rattle.history_model.specs.declared.record.Cause.TheVariants as cause
 use Rattle.history_model.specs.declared.record.Record.{Record}
 use Rattle.history_model.specs.declared.record.Record.TheVariants.{Began, Finished, Ended as HasEnded}
-use Rattle.store_model.specs.Run.{Outcome}
+use Rattle.store_model.specs.Run.{Asked, Outcome}
 use Rattle.store_model.specs.Orders.{kind_of, name_of}
 use Rattle.store_model.specs.Acts.{Act, asks, moves, IsOuter}
 use Rattle.flow_model.specs.declared.order.Order.{Order}
+use Rattle.flow_model.specs.declared.flow.Stage.{Stage}
+use Rattle.flow_model.specs.declared.flow.Stage.TheVariants.{Aborting}
+use Rattle.flow_model.specs.declared.flow.Flow.{Flow}
 use Rattle.cluster_machine.specs.declared.step.Words.{Words}
 use Rattle.cluster_machine.specs.declared.step.Words.TheVariants.{One}
+use Rattle.cluster_machine.specs.World.{numbered}
 use Rattle.audit_model.specs.Heard.{version_of, cause_of}
 
 -- a key of a list with its version
@@ -58,3 +62,12 @@ began_of act o = []
 abbrev pub IsOuterAct : Act → Type 0
 IsOuterAct (moves m) = IsOuter m.step
 IsOuterAct act = ⊤
+
+-- a request that waits so wasn't given up
+abbrev pub IsNotGivenUp : Stage → Type 0
+IsNotGivenUp (Aborting version) = ⊥
+IsNotGivenUp stage = ⊤
+
+-- none of these requests is an upload that was given up, of whose end no line tells
+abbrev pub NoneGivenUp : List Asked → Type 0
+NoneGivenUp asked = (q : ℕ) (a : Asked) (flow : Flow) → numbered asked q ≡ Some a → a.flow ≡ Some flow → IsNotGivenUp flow.stage

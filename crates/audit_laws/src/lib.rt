@@ -27,7 +27,7 @@ ghost use Rattle.audit_model.specs.Reading.{said_of};
 ghost use Rattle.audit_model.specs.Heard.{AreReadable, IsUnreadable, hears_all, quiet, asking_of};
 ghost use Rattle.audit_model.specs.Printed.{Print, IsUnlawful};
 ghost use Rattle.audit_model.specs.Audit.{DifferFirst};
-ghost use Rattle.audit_laws.specs.Account.{records_told, blunt, began_of, IsOuterAct};
+ghost use Rattle.audit_laws.specs.Account.{records_told, blunt, began_of, IsOuterAct, NoneGivenUp};
 ghost use Rattle.audit_laws.specs.Told.{IsSpoken, IsAnswered, TurnsCanBeHeard, said_text, saids_text, event_saids, node_said, turns_say, requests_after};
 
 /// What is read of a line is what the line says, and it says one thing at most.
@@ -62,10 +62,11 @@ pub fn cuts_change_no_state()
         (acted s (moves (record { step = Apply n; choice = given l shown }))).state ≡ (acted s (moves (record { step = Apply n; choice = given l other }))).state }
 {}
 
-/// The records that the lines of an act give, with that of a request that it begins, are those that it adds to the history,
-/// but for the identifiers of superseded ends; and a history that is fresh is so without them.
+/// Where no upload was given up, of whose end no line tells, the records that the lines of an act give, with that of a request
+/// that it begins, are those that it adds to the history, but for the identifiers of superseded ends; and a history that is
+/// fresh is so without them.
 pub fn lines_give_the_records()
-    ensures adds { (s : State) (act : Act) → IsOuterAct act →
+    ensures adds { (s : State) (act : Act) → IsOuterAct act → NoneGivenUp s.asked →
         map blunt (acted s act).state.history ≡ map blunt s.history ++ (began_of act (acted s act) ++ records_told (acted s act).lines) }
     ensures fresh { (history : List Record) → Fresh history → Fresh (map blunt history) }
 {}
@@ -78,9 +79,10 @@ pub fn texts_spell_what_is_said()
 {}
 
 /// Each event answers with words that it may. What the lines of turns say is heard as their history, but for the identifiers
-/// of superseded ends, where each event and each request that they name is known by then.
+/// of superseded ends, where each event and each request that they name is known by then, and no upload was given up before.
 pub fn turns_are_heard()
     ensures answers { (s : State) (e : Event) (choice : Decision) → IsAnswered e (asking_of e) (outcome s e choice).refused (outcome s e choice).words }
-    ensures heard { (events : List Numbered) (asked : List (ℕ × Kind)) (s : State) (turns : List Turn) → TurnsCanBeHeard events asked s turns →
+    ensures heard { (events : List Numbered) (asked : List (ℕ × Kind)) (s : State) (turns : List Turn) →
+        NoneGivenUp s.asked → TurnsCanBeHeard events asked s turns →
         hears_all events (quiet asked (map blunt s.history)) (turns_say s turns) ≡ Some (quiet (requests_after asked s turns) (map blunt (run s turns).history)) }
 {}

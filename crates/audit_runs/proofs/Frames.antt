@@ -31,7 +31,7 @@ use Rattle.flow_model.specs.declared.order.Order.{Order}
 use Rattle.flow_model.specs.declared.order.Order.TheVariants as order
 use Rattle.flow_model.specs.declared.flow.Flow.{Flow}
 use Rattle.flow_model.specs.declared.flow.FlowStep.{FlowStep}
-use Rattle.flow_model.specs.declared.flow.FlowStep.TheVariants.{More, Wait, End}
+use Rattle.flow_model.specs.declared.flow.FlowStep.TheVariants.{More, Need, Wait, End}
 use Rattle.flow_model.specs.Flow.{started}
 use Rattle.flow_model.specs.Next.{next}
 use Rattle.store_model.specs.declared.event.Event.{Event}
@@ -162,6 +162,7 @@ module _ (s : State) where
 
   takes_keeps : (q : ℕ) (asked : Asked) (draws : List Draw) (f : FlowStep) → staged_in (takes s q asked draws f).state ≡ staged_in s
   takes_keeps q asked draws (More flow phase) = doing_keeps s (phases q phase) tt
+  takes_keeps q asked draws (Need flow wanted) = refl
   takes_keeps q asked draws (Wait flow) = refl
   takes_keeps q asked draws (End end) = doing_keeps s (plainly (step.Close q)) tt
 

@@ -4,7 +4,7 @@ use lab_outside::Status;
 use std::alloc::Global;
 use std::test::Fail;
 
-const FIRST_SCHEDULE: &[u8] = b"\
+pub const FIRST_SCHEDULE: &[u8] = b"\
     trio\n\
     bucket pics\n\
     tick 1000\n\
@@ -14,7 +14,7 @@ const FIRST_SCHEDULE: &[u8] = b"\
     drain 100\n";
 
 /// What a replay of it tells.
-const FIRST_TRANSCRIPT: &[u8] = b"\
+pub const FIRST_TRANSCRIPT: &[u8] = b"\
     1 trio ok\n\
     2 bucket ok\n\
     3 tick ok\n\
@@ -72,7 +72,7 @@ const ANSWER: usize = 43;
 const LAST_DELIVERY: usize = 44;
 
 /// What is found of this transcript of that schedule.
-fn found(alloc: Global, transcript: &[u8]) -> Result<(Status, Vec<u8>), Fail> {
+pub fn found(alloc: Global, transcript: &[u8]) -> Result<(Status, Vec<u8>), Fail> {
     audited(alloc, &joined(alloc, FIRST_SCHEDULE, transcript)?)
 }
 

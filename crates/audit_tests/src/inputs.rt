@@ -5,7 +5,7 @@ use std::test::Fail;
 
 #[test]
 fn refused_inputs(rt: HostRuntime) -> Result<(), Fail> {
-    let rows: [(&[u8], &[u8]); 7] = [
+    let rows: [(&[u8], &[u8]); 9] = [
         (b"", b"no transcript\n"),
         (b"trio\n", b"no transcript\n"),
         (b"trio\n ---\n", b"bad line 2\n"),
@@ -13,6 +13,8 @@ fn refused_inputs(rt: HostRuntime) -> Result<(), Fail> {
         (b"trio\nput\n---\n1 trio ok\n", b"bad line 2\n"),
         (b"trio\n---\n", b"differs 1\n"),
         (b"# a comment\n\n---\nend 0 0 1\n", b"differs 1\n"),
+        (b"trio\nget 1 pics \xff\n---\n1 trio ok\n", b"bad line 2\n"),
+        (b"trio\n---\n1 trio ok\n\xc3\xa9\n", b"unreadable 2\n"),
     ];
     for (input, finding) in rows {
         let (status, text) = audited(rt.alloc(), input)?;

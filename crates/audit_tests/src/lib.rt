@@ -4,6 +4,8 @@
 #[cfg(test)]
 mod accounts;
 #[cfg(test)]
+mod faults;
+#[cfg(test)]
 mod inputs;
 #[cfg(test)]
 mod layouts;

@@ -3,3 +3,4 @@ pub mod Going
 pub mod Later
 pub mod Merged
 pub mod Nothing
+pub mod Streaming

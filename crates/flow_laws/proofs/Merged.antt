@@ -61,7 +61,7 @@ named : (block : ℕ) (body : List ℕ) (i n : ℕ) → blocks_in (entries block
 named block body i zero = refl
 named block body i (suc n) = ap (named_piece block body i ∷◌) (named block body (suc i) n)
 
-long : (block : ℕ) (body : List ℕ) (i : ℕ) → length (piece block body i) ≡ min block (length body - i * block)
+pub long : (block : ℕ) (body : List ℕ) (i : ℕ) → length (piece block body i) ≡ min block (length body - i * block)
 long block body i = length-take block (drop (i * block) body) ∙ ap (min block) (length-drop (i * block) body)
 
 same_offset : (n : ℕ) → nat_eq n n ≡ true
@@ -131,7 +131,7 @@ tells (rows.Version v) id es size h k = told v.blocks es size h.1 k
 tells (rows.Object r) id es size h k = absurd h
 tells (rows.Ref r) id es size h k = absurd h
 
-less : (a b : ℕ) → nat_lt a b ≡ true → a < b
+pub less : (a b : ℕ) → nat_lt a b ≡ true → a < b
 less a b e = grind arith
 
 -- the rows of all blocks name them in order

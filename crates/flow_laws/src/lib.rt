@@ -17,17 +17,20 @@ ghost use Rattle.wire_messages.specs.declared.phase.PhaseEnd.TheVariants.{Row, W
 ghost use Rattle.flow_model.specs.declared.order.Order.TheVariants as order;
 ghost use Rattle.flow_model.specs.declared.flow.Name.{Name};
 ghost use Rattle.flow_model.specs.declared.flow.Content.{Content};
-ghost use Rattle.flow_model.specs.declared.flow.Stage.TheVariants.{Opening};
+ghost use Rattle.flow_model.specs.declared.flow.Wish.TheVariants as wish;
+ghost use Rattle.flow_model.specs.declared.flow.Stage.TheVariants.{Drawing, Opening, Aborting, Completing};
 ghost use Rattle.flow_model.specs.declared.flow.Aim.TheVariants as aim;
-ghost use Rattle.flow_model.specs.declared.flow.FlowStep.TheVariants.{Wait, End};
-ghost use Rattle.flow_model.specs.declared.flow.FlowEnd.TheVariants.{Stored, Found, Nothing, Listed, Superseded};
-ghost use Rattle.flow_model.specs.Blocks.{has_piece, is_long};
+ghost use Rattle.flow_model.specs.declared.flow.FlowStep.TheVariants.{More, Need, Wait, End};
+ghost use Rattle.flow_model.specs.declared.flow.FlowEnd.TheVariants.{Stored, Found, Nothing, Listed, Superseded, Aborted};
+ghost use Rattle.flow_model.specs.Blocks.{piece, has_piece, is_long};
 ghost use Rattle.flow_model.specs.Rows as row;
 ghost use Rattle.flow_model.specs.Says.{none, marked, in_blocks, said_of, said_by, is_object, shown_rows, unnamed, whole, deleted, named_by};
-ghost use Rattle.flow_model.specs.Flow.{asks_for, asks_past};
-ghost use Rattle.flow_model.specs.Next.{drawn, stores, opens};
+ghost use Rattle.flow_model.specs.Flow.{waiting, asks_for, asks_past};
+ghost use Rattle.flow_model.specs.Next.{drawn, stores, opens, next};
+ghost use Rattle.flow_model.specs.Streams.{fed, finished, given_up};
 ghost use Rattle.flow_laws.specs.Courses.{begun, Runs};
 ghost use Rattle.flow_laws.specs.Pieces.{pieces, named_pieces, merged_row};
+ghost use Rattle.flow_laws.specs.Streams.{coming_of, receiving, needing};
 
 /// A put of bytes that are cut into two blocks reads the row of its object, announces the upload, stores the first block
 /// with its two rows and then the second, and then the complete version.
@@ -37,6 +40,24 @@ pub fn a_put_in_two_blocks()
         Runs (begun (order.Put name.bucket name.key c.body c.headers) id block) ((Row value, t) ∷ (Kept, u) ∷ (Kept, v) ∷ (Kept, w) ∷ (Kept, x) ∷ [])
         (asks_for name ∷ stores (row.uploading name version) ∷ Store (row.block_rows id block c.body 0) ∷ Store (row.block_rows id block c.body 1) ∷ stores (row.in_blocks name version block c) ∷ [])
         (End (Stored version (Some (row.meta_of c)))) }
+{}
+
+/// A streamed put of such bytes stores, block by block, the rows of the put: it announces the upload; once the first `i`
+/// blocks are stored it needs as many bytes as the next one has, none where all have come; fed with that block it stores
+/// what the put stores of it; and where all have come and it is kept, the complete version of the put. Given up instead,
+/// at any place, it stores that, and ends so.
+pub fn a_streamed_put()
+    ensures begins { (id block : ℕ) (name : Name) (c : Content) (value : Option AnyRow) (t : ℕ) → let version = drawn id value t in
+        (begun (order.Stream name.bucket name.key (length c.body) c.headers) id block ≡ More (record { id = id; block = block; stage = Drawing name (wish.Stream (coming_of c)) }) (asks_for name))
+        × (next (record { id = id; block = block; stage = Drawing name (wish.Stream (coming_of c)) }) (Row value) t ≡ More (receiving id block name version c 0) (stores (row.uploading name version))) }
+    ensures needs { (id block : ℕ) (name : Name) (version : Version) (c : Content) (i t : ℕ) → next (receiving id block name version c i) Kept t ≡ Need (needing id block name version c i) (length (piece block c.body i)) }
+    ensures feeds { (id block : ℕ) (name : Name) (version : Version) (c : Content) (i : ℕ) → has_piece block c.body i ≡ true →
+        fed (needing id block name version c i) (piece block c.body i) ≡ Some (receiving id block name version c (suc i), Store (row.block_rows version.id block c.body i)) }
+    ensures keeps { (id block : ℕ) (name : Name) (version : Version) (c : Content) (i : ℕ) → has_piece block c.body i ≡ false →
+        finished (needing id block name version c i) ≡ Some (waiting id block (Completing version (Some (row.meta_of c))) (stores (row.complete name version block (wish.Content c)))) }
+    ensures gives_up { (id block : ℕ) (name : Name) (version : Version) (c : Content) (i t : ℕ) →
+        (given_up (needing id block name version c i) ≡ Some (waiting id block (Aborting version) (stores (row.aborted name version))))
+        × (next (record { id = id; block = block; stage = Aborting version }) Kept t ≡ End Aborted) }
 {}
 
 /// A copy whose source has no row, or whose row says that there is no object, asks for that row alone and ends with

@@ -39,6 +39,7 @@ looks id block name aim = waiting id block (Looking name aim) (asks_for name)
 -- what the request with this number begins with, at a time when blocks have this size
 abbrev pub started : Order → ℕ → ℕ → Flow × Phase AnyRow
 started (order.Put bucket key body headers) id block = draws id block (record { bucket = bucket; key = key }) (wish.Content (record { body = body; headers = headers }))
+started (order.Stream bucket key length headers) id block = draws id block (record { bucket = bucket; key = key }) (wish.Stream (record { length = length; headers = headers }))
 started (order.Get bucket key) id block = looks id block (record { bucket = bucket; key = key }) aim.Get
 started (order.Head bucket key) id block = looks id block (record { bucket = bucket; key = key }) aim.Head
 started (order.Delete bucket key) id block = draws id block (record { bucket = bucket; key = key }) wish.Marker

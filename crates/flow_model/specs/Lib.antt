@@ -4,3 +4,4 @@ pub mod Says
 pub mod Flow
 pub mod Next
 pub mod Overdrawn
+pub mod Streams

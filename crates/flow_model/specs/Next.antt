@@ -1,5 +1,5 @@
 -- What a request does when its phase has ended.
-use Rattle.std.specs.Prelude.{ℕ, suc, max, true, false, Option, Some, None, List, [], ◌∷◌, ◌++◌}
+use Rattle.std.specs.Prelude.{ℕ, suc, max, min, ◌-◌, true, false, Option, Some, None, List, [], ◌∷◌, ◌++◌, length}
 use Rattle.std.specs.Option.{unwrap_or}
 use Rattle.blake2_hash.specs.Hash.{digest_of}
 use Rattle.row_codec.specs.Spelling.{eight}
@@ -13,17 +13,18 @@ use Rattle.wire_messages.specs.declared.phase.Phase.TheVariants.{Read, Store, Bl
 use Rattle.wire_messages.specs.declared.phase.PhaseEnd.{PhaseEnd}
 use Rattle.wire_messages.specs.declared.phase.PhaseEnd.TheVariants.{Row, Window, Kept, Block}
 use Rattle.flow_model.specs.declared.flow.Name.{Name}
+use Rattle.flow_model.specs.declared.flow.Coming.{Coming}
 use Rattle.flow_model.specs.declared.flow.Content.{Content}
 use Rattle.flow_model.specs.declared.flow.Wish.{Wish}
 use Rattle.flow_model.specs.declared.flow.Wish.TheVariants as wish
 use Rattle.flow_model.specs.declared.flow.Aim.{Aim}
 use Rattle.flow_model.specs.declared.flow.Aim.TheVariants as aim
 use Rattle.flow_model.specs.declared.flow.Stage.{Stage}
-use Rattle.flow_model.specs.declared.flow.Stage.TheVariants.{Drawing, Uploading, Completing, Looking, Opening, Gathering, Listing}
+use Rattle.flow_model.specs.declared.flow.Stage.TheVariants.{Drawing, Uploading, Receiving, Needing, Aborting, Completing, Looking, Opening, Gathering, Listing}
 use Rattle.flow_model.specs.declared.flow.Flow.{Flow}
 use Rattle.flow_model.specs.declared.flow.FlowStep.{FlowStep}
-use Rattle.flow_model.specs.declared.flow.FlowStep.TheVariants.{More, Wait, End}
-use Rattle.flow_model.specs.declared.flow.FlowEnd.TheVariants.{Stored, Found, Nothing, Listed, Superseded}
+use Rattle.flow_model.specs.declared.flow.FlowStep.TheVariants.{More, Need, Wait, End}
+use Rattle.flow_model.specs.declared.flow.FlowEnd.TheVariants.{Stored, Found, Nothing, Listed, Superseded, Aborted}
 use Rattle.flow_model.specs.Blocks.{has_piece, is_long}
 use Rattle.flow_model.specs.Rows as row
 use Rattle.flow_model.specs.Says.{Said, none, marked, inline, in_blocks, said_of, greatest_ts, shown_rows, Named, unnamed, whole, deleted, named_by}
@@ -49,11 +50,13 @@ module _ (id block : ℕ) where
   -- the complete version is stored
   abbrev pub completes : Name → Version → Wish → FlowStep
   completes name version wish.Marker = more (Completing version None) (stores (row.complete name version block wish.Marker))
+  completes name version (wish.Stream coming) = more (Completing version (Some (row.meta_of (row.content_of coming [])))) (stores (row.complete name version block (wish.Stream coming)))
   completes name version (wish.Content c) = more (Completing version (Some (row.meta_of c))) (stores (row.complete name version block (wish.Content c)))
 
   -- a write has drawn its version: long bytes are uploaded block by block, all else is stored at once
   abbrev pub writes : Name → Version → Wish → FlowStep
   writes name version wish.Marker = completes name version wish.Marker
+  writes name version (wish.Stream coming) = more (Receiving name version coming []) (stores (row.uploading name version))
   writes name version (wish.Content c) = elim (is_long c.body) [
     | true ↦ more (Uploading name version c 0) (stores (row.uploading name version))
     | false ↦ completes name version (wish.Content c)
@@ -65,6 +68,14 @@ module _ (id block : ℕ) where
     | true ↦ more (Uploading name version c (suc stored)) (Store (row.block_rows version.id block c.body stored))
     | false ↦ completes name version (wish.Content c)
   ]
+
+  -- what a streamed upload waits for: so many bytes, which are its next block, or 0 where all have come
+  abbrev pub wanted : Coming → List ℕ → ℕ
+  wanted coming received = min block (coming.length - length received)
+
+  -- a streamed upload waits for its client
+  abbrev pub needs : Name → Version → Coming → List ℕ → FlowStep
+  needs name version coming received = Need (record { id = id; block = block; stage = Needing name version coming received }) (wanted coming received)
 
   -- the object was read: it is given, or written under its new name
   abbrev pub found : Aim → Version → Meta → List ℕ → FlowStep
@@ -104,6 +115,8 @@ module _ (id block : ℕ) where
   abbrev pub goes_on : Stage → PhaseEnd AnyRow → ℕ → FlowStep
   goes_on (Drawing name wish) (Row value) now = writes name (drawn id value now) wish
   goes_on (Uploading name version content stored) Kept now = uploads name version content stored
+  goes_on (Receiving name version coming received) Kept now = needs name version coming received
+  goes_on (Aborting version) Kept now = End Aborted
   goes_on (Completing version meta) Kept now = End (Stored version meta)
   goes_on (Looking name aim) (Row value) now = looked aim (said_of value)
   goes_on (Opening version meta aim) (Row value) now = opened aim version meta (named_by value meta.size)

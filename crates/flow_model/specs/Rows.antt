@@ -17,6 +17,7 @@ use Rattle.crdt_rows.specs.State.{is_sized}
 use Rattle.crdt_rows.specs.FieldLaws.{version_total}
 use Rattle.crdt_rows.specs.Versions.{is_settled_row, is_sized_row}
 use Rattle.flow_model.specs.declared.flow.Name.{Name}
+use Rattle.flow_model.specs.declared.flow.Coming.{Coming}
 use Rattle.flow_model.specs.declared.flow.Content.{Content}
 use Rattle.flow_model.specs.declared.flow.Wish.{Wish}
 use Rattle.flow_model.specs.declared.flow.Wish.TheVariants as wish
@@ -29,6 +30,10 @@ row_key name = (digest_of name.bucket).0 ++ name.key
 -- what is stored of bytes beside them: their length, their MD5 and the headers
 abbrev pub meta_of : Content → Meta
 meta_of c = record { size = length c.body; etag = md5 c.body; headers = c.headers }
+
+-- the bytes that were received of those that come, with the headers that are stored beside them
+abbrev pub content_of : Coming → List ℕ → Content
+content_of coming received = record { body = received; headers = coming.headers }
 
 -- Two laws that the next definition needs, and what they stand on: a number is itself.
 pub same_number : (n : ℕ) → (n == n) ≡ true
@@ -58,6 +63,10 @@ object_row name version state is_sized = rows.Object (record {
 abbrev pub uploading : Name → Version → AnyRow
 uploading name version = object_row name version Uploading refl
 
+-- the upload of this version was given up
+abbrev pub aborted : Name → Version → AnyRow
+aborted name version = object_row name version Aborted refl
+
 -- the object is deleted since this version
 abbrev pub marker : Name → Version → AnyRow
 marker name version = object_row name version (Complete Marker) refl
@@ -73,19 +82,32 @@ in_blocks name version block c = object_row name version (Complete (Blocks (meta
 -- the row that says that the version is complete
 abbrev pub complete : Name → Version → ℕ → Wish → AnyRow
 complete name version block wish.Marker = marker name version
+complete name version block (wish.Stream coming) = inline name version (content_of coming [])  -- no byte of it is known
 complete name version block (wish.Content c) = elim (is_long c.body) [ true ↦ in_blocks name version block c | false ↦ inline name version c ]
+
+-- the version's row with the block of these bytes alone, which begins at this offset
+abbrev pub version_row_at : ℕ → ℕ → List ℕ → AnyRow
+version_row_at id offset bytes = rows.Version (record {
+  id = id;
+  blocks = Present (map_single (record { part = 1; offset = offset }) (record { 0 = record { hash = digest_of bytes; size = length bytes } }));
+})
+
+-- the live reference of the version to the block of these bytes
+abbrev pub reference_to : ℕ → List ℕ → AnyRow
+reference_to id bytes = rows.Ref (record { hash = digest_of bytes; id = id; deleted = record { 0 = false } })
+
+-- what is stored of a version's block: the two rows, with the block beside the reference
+abbrev pub rows_at : ℕ → ℕ → List ℕ → List (AnyRow × Option (List ℕ))
+rows_at id offset bytes = (version_row_at id offset bytes, None) ∷ (reference_to id bytes, Some bytes) ∷ []
 
 -- the version's row with its block i alone
 abbrev pub version_row : ℕ → ℕ → List ℕ → ℕ → AnyRow
-version_row id block body i = rows.Version (record {
-  id = id;
-  blocks = Present (map_single (record { part = 1; offset = i * block }) (record { 0 = record { hash = piece_hash block body i; size = length (piece block body i) } }));
-})
+version_row id block body i = version_row_at id (i * block) (piece block body i)
 
 -- the live reference of the version to its block i
 abbrev pub reference_row : ℕ → ℕ → List ℕ → ℕ → AnyRow
-reference_row id block body i = rows.Ref (record { hash = piece_hash block body i; id = id; deleted = record { 0 = false } })
+reference_row id block body i = reference_to id (piece block body i)
 
--- what is stored of a version's block i: the two rows, with the block beside the reference
+-- what is stored of a version's block i
 abbrev pub block_rows : ℕ → ℕ → List ℕ → ℕ → List (AnyRow × Option (List ℕ))
-block_rows id block body i = (version_row id block body i, None) ∷ (reference_row id block body i, Some (piece block body i)) ∷ []
+block_rows id block body i = rows_at id (i * block) (piece block body i)

@@ -20,11 +20,20 @@ pub struct Content {
     pub headers: List<(Bytes, Bytes)>,
 }
 
+/// The bytes of an object that come block by block: how many there are in all, and the headers that are stored beside them.
+#[derive(Drop)]
+pub struct Coming {
+    pub length: u64,
+    pub headers: List<(Bytes, Bytes)>,
+}
+
 /// What a write makes of its object.
 #[derive(Drop)]
 pub enum Wish {
     /// It is to hold these bytes.
     Content(Content),
+    /// It is to hold bytes that are still to come.
+    Stream(Coming),
     /// It is to be deleted: a marker stands for it.
     Marker,
 }
@@ -58,6 +67,26 @@ pub enum Stage {
         version: Version,
         content: Content,
         stored: u64,
+    },
+    /// A streamed upload was announced, and what has come of its bytes is stored, the last block or the announcement being
+    /// on its way.
+    Receiving {
+        name: Name,
+        version: Version,
+        coming: Coming,
+        received: Pieces,
+    },
+    /// All that has come is stored: the upload waits for its next block, or, where all bytes have come, to be told whether
+    /// it is kept.
+    Needing {
+        name: Name,
+        version: Version,
+        coming: Coming,
+        received: Pieces,
+    },
+    /// It is stored that a streamed upload was given up.
+    Aborting {
+        version: Version,
     },
     /// The complete version is stored, with this meta; none for a delete marker.
     Completing {
@@ -105,6 +134,8 @@ pub struct Flow {
 pub enum FlowStep {
     /// It goes on with this phase.
     More(Flow, Phase<AnyRow>),
+    /// It waits for its client: for a block of so many bytes, or, where these are 0, to be told whether it is kept.
+    Need(Flow, u64),
     /// It goes on waiting: the version's row is absent, or neither deleted nor whole, so that nothing comes any more; or
     /// the end was not one of its phase.
     Wait(Flow),
@@ -132,4 +163,6 @@ pub enum FlowEnd {
     Listed(List<ObjectRow>),
     /// A get or copy found its version's row deleted; the version's identifier.
     Superseded(u64),
+    /// A streamed upload was given up.
+    Aborted,
 }

@@ -12,6 +12,13 @@ pub enum Order {
         body: Bytes,
         headers: List<(Bytes, Bytes)>,
     },
+    /// Writes an object of so many bytes, 3,072 at least, which come block by block once it has begun.
+    Stream {
+        bucket: Bytes,
+        key: Bytes,
+        length: u64,
+        headers: List<(Bytes, Bytes)>,
+    },
     /// Reads an object.
     Get {
         bucket: Bytes,

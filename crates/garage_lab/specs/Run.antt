@@ -33,7 +33,7 @@ Does i o l c Check result input input' output output' link link' clock clock' = 
 Does i o l c Audit result input input' output output' link link' clock clock' = Audits i o result input input' output output' × (link' ≡ link) × (clock' ≡ clock)
 Does i o l c Items result input input' output output' link link' clock clock' = ReplaysItems i o result input input' output output' × (link' ≡ link) × (clock' ≡ clock)
 Does i o l c (Workload w) result input input' output output' link link' clock clock' = Summarizes o w.count w.seed result output output' × (input' ≡ input) × (link' ≡ link) × (clock' ≡ clock)
-Does i o l c (Serve s) result input input' output output' link link' clock clock' = (g : Grammar) → Serves i o l c g s.count result input input' output output' link link' clock clock'
+Does i o l c (Serve s) result input input' output output' link link' clock clock' = (g : Grammar) → Serves i o l c g s.port s.count result input input' output output' link link' clock clock'
 
 -- what words bring that ask for nothing: the usage line, unless a write fails; nothing is read, and link and clock are as before
 pub record TellsUsage {I O L C : Type 0} (o : sink.Ghosts O) (result : Status) (input input' : I) (output output' : O) (link link' : L) (clock clock' : C) : Type 0 where

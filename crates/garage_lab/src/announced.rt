@@ -27,6 +27,8 @@ impl<L: Link, E: Eprint> Link for Announced<L, E> {
 
     ghost faults = { λ it. L.faults it.link };
 
+    ghost open_at = { λ it. L.open_at it.link };
+
     /// A line that can't be written is left out: the port is open without it.
     fn open(&mut self, port: u16) -> Result<(), Failed> {
         self.link.open(port)?;

@@ -19,18 +19,19 @@ use Rattle.flow_model.specs.declared.flow.Name.{Name}
 use Rattle.flow_model.specs.declared.flow.Stage.{Stage}
 use Rattle.flow_model.specs.declared.flow.Flow.{Flow}
 use Rattle.flow_model.specs.declared.flow.FlowStep.{FlowStep}
-use Rattle.flow_model.specs.declared.flow.FlowStep.TheVariants.{More, Wait, End}
+use Rattle.flow_model.specs.declared.flow.FlowStep.TheVariants.{More, Need, Wait, End}
 use Rattle.flow_model.specs.declared.flow.FlowEnd.{FlowEnd}
 use Rattle.flow_model.specs.Next.{next}
+use Rattle.flow_model.specs.Streams as stream
 use Rattle.store_model.specs.Orders.{buckets_of}
-use Rattle.store_model.specs.Run.{Moving, State, Asked, Draw, Outcome, silent, refusal, plainly, effect, doing, are_buckets, opened, begins, draws_of, takes, follows, follow, goes_on, delivers, then_drains, drains}
-use Rattle.store_model.specs.Acts.{Act, moves, installs, asks, delivery, drain, forgets, takes as takes_end, end_of, without_end, adds, cuts, acted, after_acts}
+use Rattle.store_model.specs.Run.{Moving, State, Asked, Draw, Outcome, silent, refusal, plainly, effect, doing, are_buckets, opened, begins, draws_of, takes, follows, follow, goes_on, delivers, then_drains, drains, hears, heard_in, heard, fills_at}
+use Rattle.store_model.specs.Acts.{Act, moves, installs, asks, delivery, drain, forgets, takes as takes_end, end_of, without_end, adds, cuts, feeds, keeps, gives_up, acted, after_acts}
 use Rattle.store_model.specs.Gets.{object_seen, object_given, stage_of, is_get, is_there, gathered_at, body_of}
 use Rattle.serve_model.specs.Stores.{Given, IsFirstOf}
 use Rattle.serve_model.specs.Clusters.{given_by}
 use Rattle.get_laws.specs.OnTheWay.{LeavesEnd, IsLater}
 use Rattle.get_laws.proofs.Firsts.{first_same, first_through}
-use Rattle.get_laws.proofs.Getting.{Seen, IsAt, given_at, Advances, stage_advances}
+use Rattle.get_laws.proofs.Getting.{Seen, WaitsWith, IsAt, given_at, Advances, stage_advances, hears_none}
 
 -- what a request waits for
 abbrev pub stage_in : Option Flow → Option Stage
@@ -113,7 +114,7 @@ end_here (e ∷ es) q end none =
     ] none
 
 -- and others have theirs
-end_there : (ends : List (ℕ × FlowEnd)) (p q : ℕ) (end : FlowEnd) → (p == q) ≡ false → end_of (ends ++ (p, end) ∷ []) q ≡ end_of ends q
+pub end_there : (ends : List (ℕ × FlowEnd)) (p q : ℕ) (end : FlowEnd) → (p == q) ≡ false → end_of (ends ++ (p, end) ∷ []) q ≡ end_of ends q
 end_there [] p q end apart = rw apart refl
 end_there (e ∷ es) p q end apart = ap (λ o. cond (e.0 == q) (Some e.1) o) (end_there es p q end apart)
 
@@ -137,6 +138,7 @@ module _ (s : State) (p q : ℕ) (apart : (p == q) ≡ false) where
 
   others_take : {first : Option Given} (a : Asked) (draws : List Draw) (st : FlowStep) → numbered s.asked p ≡ Some a → (h : GivesOn first s q) → GivesOn first (takes s p a draws st).state q
   others_take a draws (More flow phase) at h = still s _ h (others_asked a (getting h.node h.name h.flow) (Some flow) at h.asked) refl refl
+  others_take a draws (Need flow wanted) at h = still s _ h (others_asked a (getting h.node h.name h.flow) (Some flow) at h.asked) refl refl
   others_take a draws (Wait flow) at h = still s _ h (others_asked a (getting h.node h.name h.flow) (Some flow) at h.asked) refl refl
   others_take a draws (End end) at h = still s _ h (others_asked a (getting h.node h.name h.flow) None at h.asked) (end_there s.ends p q end apart) refl
 
@@ -165,6 +167,18 @@ module _ (s : State) (q node : ℕ) (name : Name) (flow : Flow) (seen : Seen) (a
   -- what was given at first was the first of this before
   own_takes : (first before : Option Given) (st : FlowStep) → IsFirstOf first before → Advances before st seen → GivesOn first (takes s q (getting node name (Some flow)) draws st).state q
   own_takes first before (More new phase) more goes = record {
+    node = node;
+    name = name;
+    flow = Some new;
+    end = None;
+    seen = seen;
+    asked = own_there (Some new);
+    end_is = none;
+    seen_is = seen_is;
+    at = goes.0;
+    more = first_through first before (given_at (Some new.stage) None seen) more goes.1;
+  }
+  own_takes first before (Need new wanted) more goes = record {
     node = node;
     name = name;
     flow = Some new;
@@ -219,6 +233,33 @@ module _ {first : Option Given} (s : State) (q : ℕ) (how : PhaseEnd AnyRow) (h
   own_follow : GivesOn first (follow s q (numbered s.asked q) how).state q
   own_follow = subst (λ (o : Option Asked). GivesOn first (follow s q o how).state q) (sym h.asked) (own_follows h.flow h.end refl refl h.at h.more)
 
+-- ---- the client of a streamed upload was heard
+
+-- a get goes on waiting, whatever a client does
+abbrev HearsNone : (Flow → stream.Step) → Type 0
+HearsNone says = (flow : Flow) (seen : Seen) → WaitsWith flow.stage seen → says flow ≡ None
+
+module _ {first : Option Given} (s : State) (says : Flow → stream.Step) where
+  others_heard : (p q : ℕ) → (p == q) ≡ false → (asked : Option Asked) → numbered s.asked p ≡ asked → GivesOn first s q → GivesOn first (heard s p says asked).state q
+  others_heard p q apart None at h = h
+  others_heard p q apart (Some a) at h = by_flow a.flow
+    where
+      by_next : (next : stream.Step) → GivesOn first (hears s p a next).state q
+      by_next None = h
+      by_next (Some next) = others_take s p q apart a [] (More next.0 next.1) at h
+
+      by_flow : (flow : Option Flow) → GivesOn first (heard_in s p says a flow).state q
+      by_flow None = h
+      by_flow (Some flow) = by_next (says flow)
+
+  own_heard : (q : ℕ) → HearsNone says → (h : GivesOn first s q) → GivesOn first (heard s q says (numbered s.asked q)).state q
+  own_heard q none h = subst (λ (o : Option Asked). GivesOn first (heard s q says o).state q) (sym h.asked) (by_flow h.flow h.end h.at)
+    where
+      by_flow : (flow : Option Flow) (end : Option FlowEnd) → IsAt (stage_in flow) end h.seen → GivesOn first (heard_in s q says (getting h.node h.name h.flow) flow).state q
+      by_flow None end at = h
+      by_flow (Some f) (Some end) at = absurd at
+      by_flow (Some f) None at = subst (λ (next : stream.Step). GivesOn first (hears s q (getting h.node h.name h.flow) next).state q) (sym (none f h.seen at)) h
+
 -- ---- acts
 
 module _ {first : Option Given} {q : ℕ} where
@@ -254,6 +295,13 @@ module _ {first : Option Given} {q : ℕ} where
         | false ↦ h
       ]
 
+  heard_gives : (s : State) (p : ℕ) (says : Flow → stream.Step) → HearsNone says → GivesOn first s q → GivesOn first (heard s p says (numbered s.asked p)).state q
+  heard_gives s p says none h =
+      elim (p == q) as (λ b. (p == q) ≡ b → GivesOn first (heard s p says (numbered s.asked p)).state q) [
+        | true ↦ λ same. subst (λ (p : ℕ). GivesOn first (heard s p says (numbered s.asked p)).state q) (sym (eqb-true p q same)) (own_heard s says q none h)
+        | false ↦ λ apart. others_heard s says p q apart (numbered s.asked p) refl h
+      ] refl
+
   act_gives : (s : State) (a : Act) → LeavesEnd q a → GivesOn first s q → GivesOn first (acted s a).state q
   act_gives s (moves m) leaves h = still s (acted s (moves m)).state h h.asked refl refl
   act_gives s (installs l) leaves h = still s (acted s (installs l)).state h h.asked refl refl
@@ -264,6 +312,11 @@ module _ {first : Option Given} {q : ℕ} where
   act_gives s (takes_end p) leaves h = still s (acted s (takes_end p)).state h h.asked (taken_there s.ends p q (ne_eqb p q leaves)) refl
   act_gives s (adds name) leaves h = still s (acted s (adds name)).state h h.asked refl refl
   act_gives s (cuts block) leaves h = still s (acted s (cuts block)).state h h.asked refl refl
+  act_gives s (feeds p bytes) leaves h = heard_gives s p (λ flow. stream.fed flow bytes) (λ f seen is. (hears_none f.id f.block bytes f.stage seen is).0) h
+  act_gives s (keeps p) leaves h =
+      let filled : State = record s { draws = fills_at s p (numbered s.asked p) ++ s.draws } in
+      heard_gives filled p stream.finished (λ f seen is. (hears_none f.id f.block [] f.stage seen is).1) (still s filled h h.asked refl refl)
+  act_gives s (gives_up p) leaves h = heard_gives s p stream.given_up (λ f seen is. (hears_none f.id f.block [] f.stage seen is).2) h
 
   acts_give : (s : State) (acts : List Act) → AllByRecursion (LeavesEnd q) acts → GivesOn first s q → GivesOn first (after_acts s acts) q
   acts_give s [] leave h = h

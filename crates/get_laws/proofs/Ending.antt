@@ -20,7 +20,7 @@ use Rattle.store_model.specs.Run.{State, Asked, Saw, Outcome, refusal, plainly, 
 use Rattle.store_model.specs.Acts.{Act, moves, drain, end_of, acted, all_messages}
 use Rattle.store_model.specs.Gets.{object_seen, found_by, gathered}
 use Rattle.serve_model.specs.Stores.{Given, IsFirstOf, given_with}
-use Rattle.serve_model.specs.Clusters.{Cluster, wait, asker, works, round, acts_to_end, begun_with, number_in, given_by, end_then, begun_then}
+use Rattle.serve_model.specs.Clusters.{Cluster, wait, asker, works, delivered, round, acts_to_end, begun_with, number_in, given_by, end_then, begun_then}
 use Rattle.get_laws.specs.OnTheWay.{KnowsRequests, LeavesEnd, IsLater, next_request, opening, asked_for, IsTaken, number_of, finished, IsOnTheWay, given_in_all}
 use Rattle.get_laws.proofs.Knowing.{act_knows}
 use Rattle.get_laws.proofs.Getting.{given_at, gives_all}
@@ -91,7 +91,7 @@ round_leaves : (q : ℕ) (members : List ℕ) → AllByRecursion (LeavesEnd q) (
 round_leaves q members = all_append (LeavesEnd q) (works members) (drain all_messages ∷ []) (works_leave q members) (tt, tt)
 
 -- the acts to its end don't take it
-pub acts_leave : (q : ℕ) (members : List ℕ) → AllByRecursion (LeavesEnd q) (acts_to_end members)
+pub acts_leave : (q : ℕ) (members : List ℕ) → AllByRecursion (LeavesEnd q) (acts_to_end members delivered)
 acts_leave q members = (tt, all_append (LeavesEnd q) (round members) (round members) (round_leaves q members) (round_leaves q members))
 
 -- what is given in all, by equals
@@ -110,7 +110,7 @@ module _ (c : Cluster) (time : ℕ) (bucket key : List ℕ) where
 
   -- what it gives in all, where it is refused so or not
   abbrev all_given : Option (Refusal Cut) → Option Given
-  all_given r = given_with (end_then c.members o.state q r) (begun_then c.members o.state q r)
+  all_given r = given_with (end_then c.members o.state q delivered r) (begun_then c.members o.state q delivered r)
 
   pub refused_gives_none : (reason : Refusal Cut) → o.refused ≡ Some reason → given_in_all c time bucket key ≡ None
   refused_gives_none reason is = ap all_given is
@@ -124,7 +124,7 @@ module _ (c : Cluster) (time : ℕ) (bucket key : List ℕ) where
         subst (λ (o : Outcome). GivesOn None o.state (number_in o.words)) (sym (begun_is s n (Get bucket key) taken)) (opened_gives s n bucket key (act_knows c.run tick (tt, tt, tt) known))
 
     last_gives : GivesOn None last q
-    last_gives = later_gives o.state last (record { acts = acts_to_end c.members; leave = acts_leave q c.members; after = refl }) asked_gives
+    last_gives = later_gives o.state last (record { acts = acts_to_end c.members delivered; leave = acts_leave q c.members; after = refl }) asked_gives
 
     given_then : given_with (end_of last.ends q) (begun_with (end_of last.ends q) (given_by last q)) ≡ given_by last q
     given_then =

@@ -11,13 +11,14 @@ use Rattle.wire_messages.specs.declared.phase.PhaseEnd.TheVariants.{Row, Window,
 use Rattle.flow_model.specs.declared.flow.Aim.TheVariants as aim
 use Rattle.flow_model.specs.declared.flow.Name.{Name}
 use Rattle.flow_model.specs.declared.flow.Stage.{Stage}
-use Rattle.flow_model.specs.declared.flow.Stage.TheVariants.{Drawing, Uploading, Completing, Looking, Opening, Gathering, Listing}
+use Rattle.flow_model.specs.declared.flow.Stage.TheVariants.{Drawing, Uploading, Receiving, Needing, Aborting, Completing, Looking, Opening, Gathering, Listing}
 use Rattle.flow_model.specs.declared.flow.FlowStep.{FlowStep}
-use Rattle.flow_model.specs.declared.flow.FlowStep.TheVariants.{More, Wait, End}
+use Rattle.flow_model.specs.declared.flow.FlowStep.TheVariants.{More, Need, Wait, End}
 use Rattle.flow_model.specs.declared.flow.FlowEnd.{FlowEnd}
-use Rattle.flow_model.specs.declared.flow.FlowEnd.TheVariants.{Stored, Found, Nothing, Listed, Superseded}
+use Rattle.flow_model.specs.declared.flow.FlowEnd.TheVariants.{Stored, Found, Nothing, Listed, Superseded, Aborted}
 use Rattle.flow_model.specs.Says.{Said, none, marked, inline, in_blocks, said_of, Named, unnamed, whole, deleted, named_by}
 use Rattle.flow_model.specs.Next.{looked, gathers, opened, goes_on}
+use Rattle.flow_model.specs.Streams.{fed_in, kept_in, given_up_in}
 use Rattle.store_model.specs.Gets.{object_in, object_given, is_there, gathered_at, body_of}
 use Rattle.serve_model.specs.Stores.{Given, IsFirstOf, given_with}
 use Rattle.serve_model.specs.Clusters.{begun_with}
@@ -63,6 +64,7 @@ given_at stage end seen = option_map (λ (found : Version × Meta). record { ver
 -- it goes on so, sees this, and gives more
 abbrev pub Advances : Option Given → FlowStep → Seen → Type 0
 Advances before (More flow phase) seen = WaitsWith flow.stage seen × IsFirstOf before (given_at (Some flow.stage) None seen)
+Advances before (Need flow wanted) seen = WaitsWith flow.stage seen × IsFirstOf before (given_at (Some flow.stage) None seen)
 Advances before (Wait flow) seen = WaitsWith flow.stage seen × IsFirstOf before (given_at (Some flow.stage) None seen)
 Advances before (End end) seen = EndsWith end seen × IsFirstOf before (given_at None (Some end) seen)
 
@@ -123,8 +125,16 @@ module _ (id block : ℕ) where
   stage_advances (Gathering version meta (aim.Copy new headers) left body) end now seen is = absurd is
   stage_advances (Drawing name wish) end now seen is = absurd is
   stage_advances (Uploading name version content stored) end now seen is = absurd is
+  stage_advances (Receiving name version coming received) end now seen is = absurd is
+  stage_advances (Needing name version coming received) end now seen is = absurd is
+  stage_advances (Aborting version) end now seen is = absurd is
   stage_advances (Completing version meta) end now seen is = absurd is
   stage_advances (Listing bucket prefix rows) end now seen is = absurd is
+
+-- a get waits for no client: whatever one does, nothing comes of it
+pub hears_none : (id block : ℕ) (bytes : List ℕ) (stage : Stage) (seen : Seen) → WaitsWith stage seen → (fed_in id block stage bytes ≡ None) × (kept_in id block stage ≡ None) × (given_up_in id block stage ≡ None)
+hears_none id block bytes (Needing name version coming received) seen is = absurd is
+hears_none id block bytes _ seen is = (refl, refl, refl)
 
 -- ---- in all
 
@@ -134,6 +144,7 @@ ends_with_all Nothing seen is = rw is refl
 ends_with_all (Superseded id) seen is = refl
 ends_with_all (Stored version meta) seen is = absurd is
 ends_with_all (Listed rows) seen is = absurd is
+ends_with_all Aborted seen is = absurd is
 
 -- what a get gives in all is what it has given until its end is taken
 pub gives_all : (stage : Option Stage) (end : Option FlowEnd) (seen : Seen) → IsAt stage end seen → given_with end (begun_with end (given_at stage end seen)) ≡ given_at stage end seen

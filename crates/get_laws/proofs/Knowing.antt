@@ -26,13 +26,14 @@ use Rattle.machine_origins.proofs.Places.{numbered_within}
 use Rattle.flow_model.specs.declared.order.Order.{Order}
 use Rattle.flow_model.specs.declared.flow.Flow.{Flow}
 use Rattle.flow_model.specs.declared.flow.FlowStep.{FlowStep}
-use Rattle.flow_model.specs.declared.flow.FlowStep.TheVariants.{More, Wait, End}
+use Rattle.flow_model.specs.declared.flow.FlowStep.TheVariants.{More, Need, Wait, End}
 use Rattle.flow_model.specs.declared.flow.FlowEnd.{FlowEnd}
 use Rattle.flow_model.specs.Flow.{started}
 use Rattle.flow_model.specs.Next.{next}
+use Rattle.flow_model.specs.Streams as stream
 use Rattle.store_model.specs.Orders.{buckets_of}
-use Rattle.store_model.specs.Run.{World, Moving, State, start, Asked, Draw, Saw, Outcome, silent, refusal, plainly, effect, doing, are_buckets, phases, new_request, opened, begins, draws_of, takes, follows, follow, goes_on, delivers, then_drains, drains}
-use Rattle.store_model.specs.Acts.{Act, moves, installs, asks, delivery, drain, forgets, takes as takes_end, without_end, adds, cuts, acted, after_acts, IsOuter, IsLawfulAct, AreLawfulActs}
+use Rattle.store_model.specs.Run.{World, Moving, State, start, Asked, Draw, Saw, Outcome, silent, refusal, plainly, effect, doing, are_buckets, phases, new_request, opened, begins, draws_of, takes, follows, follow, goes_on, delivers, then_drains, drains, hears, heard_in, heard, fills_at}
+use Rattle.store_model.specs.Acts.{Act, moves, installs, asks, delivery, drain, forgets, takes as takes_end, without_end, adds, cuts, feeds, keeps, gives_up, acted, after_acts, IsOuter, IsLawfulAct, AreLawfulActs}
 use Rattle.get_laws.specs.OnTheWay.{KnowsRequests}
 
 -- ---- no step but one opens a request
@@ -150,6 +151,7 @@ module _ (s : State) (known : KnowsRequests s) where
     pub takes_know : (draws : List Draw) (st : FlowStep) → KnowsRequests (takes s q a draws st).state
     takes_know draws (More flow phase) =
         let t : State = (takes s q a draws (More flow phase)).state in knows t (length s.asked) (set_length (Some flow)) (count_stays s (phases q phase) tt ∙ sym known.lengths) are
+    takes_know draws (Need flow wanted) = let t : State = (takes s q a draws (Need flow wanted)).state in knows t (length s.asked) (set_length (Some flow)) (sym known.lengths) are
     takes_know draws (Wait flow) = let t : State = (takes s q a draws (Wait flow)).state in knows t (length s.asked) (set_length (Some flow)) (sym known.lengths) are
     takes_know draws (End end) =
         let t : State = (takes s q a draws (End end)).state in
@@ -227,6 +229,19 @@ outer_opens_none : (st : Step AnyRow) → IsOuter st → IsNoOpen st
 outer_opens_none (step.Open n) outer = outer
 outer_opens_none st outer = tt
 
+-- the client of a streamed upload was heard
+heard_knows : (s : State) (q : ℕ) (says : Flow → stream.Step) (asked : Option Asked) → numbered s.asked q ≡ asked → KnowsRequests s → KnowsRequests (heard s q says asked).state
+heard_knows s q says None at known = known
+heard_knows s q says (Some a) at known = by_flow a.flow
+  where
+    by_next : (next : stream.Step) → KnowsRequests (hears s q a next).state
+    by_next None = known
+    by_next (Some next) = takes_know s known q a (numbered_within s.asked q a at) [] (More next.0 next.1)
+
+    by_flow : (flow : Option Flow) → KnowsRequests (heard_in s q says a flow).state
+    by_flow None = known
+    by_flow (Some flow) = by_next (says flow)
+
 pub act_knows : (s : State) (a : Act) → IsLawfulAct s a → KnowsRequests s → KnowsRequests (acted s a).state
 act_knows s (moves m) lawful known = world_knows s known (acted s (moves m)).state refl refl refl (count_stays s m (outer_opens_none m.step lawful.0))
 act_knows s (installs first) lawful known = world_knows s known (acted s (installs first)).state refl refl refl (count_after s (install any_join words s.world first) refl)
@@ -237,6 +252,10 @@ act_knows s forgets lawful known = world_knows s known (acted s forgets).state r
 act_knows s (takes_end q) lawful known = record { lengths = known.lengths; saw = known.saw; ends = all_but_one _ s.ends q known.ends }
 act_knows s (adds name) lawful known = world_knows s known (acted s (adds name)).state refl refl refl refl
 act_knows s (cuts block) lawful known = world_knows s known (acted s (cuts block)).state refl refl refl refl
+act_knows s (feeds q bytes) lawful known = heard_knows s q (λ flow. stream.fed flow bytes) (numbered s.asked q) refl known
+act_knows s (keeps q) lawful known =
+    heard_knows (record s { draws = fills_at s q (numbered s.asked q) ++ s.draws }) q stream.finished (numbered s.asked q) refl (record { lengths = known.lengths; saw = known.saw; ends = known.ends })
+act_knows s (gives_up q) lawful known = heard_knows s q stream.given_up (numbered s.asked q) refl known
 
 pub start_knows : KnowsRequests start
 start_knows = record { lengths = refl; saw = tt; ends = tt }

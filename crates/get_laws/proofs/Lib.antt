@@ -4,3 +4,4 @@ pub mod Getting
 pub mod Acting
 pub mod Ending
 pub mod Middle
+pub mod Coming

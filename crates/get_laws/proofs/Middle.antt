@@ -16,7 +16,7 @@ use Rattle.store_model.specs.Run.{State, Outcome, plainly, refusal, are_buckets,
 use Rattle.store_model.specs.Acts.{Act, moves, asks, drain, acted, after_acts, all_messages}
 use Rattle.store_model.proofs.Drains.{drains_one, drains_none}
 use Rattle.serve_model.specs.Stores.{Given, IsFirstOf}
-use Rattle.serve_model.specs.Clusters.{Cluster, wait, asker, acts_to_ask, acts_to_end, number_in, given_by, GivesSoFar}
+use Rattle.serve_model.specs.Clusters.{Cluster, wait, asker, acts_to_ask, delivered, acts_to_end, number_in, given_by, GivesSoFar}
 use Rattle.get_laws.specs.OnTheWay.{KnowsRequests, LeavesEnd, IsLater, asked_for, number_of, finished, given_in_all}
 use Rattle.get_laws.proofs.Firsts.{first_through}
 use Rattle.get_laws.proofs.Ending.{acts_leave, cluster_gives_first}
@@ -81,7 +81,7 @@ module _ (c : Cluster) (time : ℕ) (bucket key : List ℕ) (known : KnowsReques
   ticked = (acted c.run (moves (plainly (Tick (wait c time))))).state
 
   -- what is done between asking and some deliveries
-  module _ (between : List Act) (count : ℕ) (few : count ≤ all_messages) (later : List Act) (parts : acts_to_end c.members ≡ between ++ drain all_messages ∷ later) where
+  module _ (between : List Act) (count : ℕ) (few : count ≤ all_messages) (later : List Act) (parts : acts_to_end c.members delivered ≡ between ++ drain all_messages ∷ later) where
     abbrev reached : State
     reached = after_acts o.state (between ++ drain count ∷ [])
 
@@ -116,7 +116,7 @@ module _ (c : Cluster) (time : ℕ) (bucket key : List ℕ) (known : KnowsReques
     reached_first g (Some reason) refused first = absurd (subst (λ n. IsFirstOf (Some g) (given_by reached n)) (refused_number ticked (asker c.members) (Get bucket key) reason refused) first)
 
   -- whatever came before the deliveries
-  by_before : (before : List Act) (count : ℕ) (later : List Act) (g : Given) → count ≤ all_messages → acts_to_ask c.members (wait c time) (Get bucket key) ++ acts_to_end c.members ≡ before ++ drain all_messages ∷ later →
+  by_before : (before : List Act) (count : ℕ) (later : List Act) (g : Given) → count ≤ all_messages → acts_to_ask c.members (wait c time) (Get bucket key) ++ acts_to_end c.members delivered ≡ before ++ drain all_messages ∷ later →
       IsFirstOf (Some g) (given_by (after_acts c.run (before ++ drain count ∷ [])) q) → IsFirstOf (Some g) all
   by_before [] count later g few parts first = cc
   by_before (a ∷ []) count later g few parts first = cc
@@ -125,7 +125,7 @@ module _ (c : Cluster) (time : ℕ) (bucket key : List ℕ) (known : KnowsReques
       let asking : Act = asks (asker c.members) (Get bucket key) in
       let a_is : a ≡ tick = cc in
       let b_is : b ≡ asking = cc in
-      let rest_is : acts_to_end c.members ≡ between ++ drain all_messages ∷ later = cc in
+      let rest_is : acts_to_end c.members delivered ≡ between ++ drain all_messages ∷ later = cc in
       reached_first between count few later rest_is g o.refused refl
       (subst (λ (x : Act). IsFirstOf (Some g) (given_by (after_acts c.run (tick ∷ x ∷ between ++ drain count ∷ [])) q)) b_is
       (subst (λ (x : Act). IsFirstOf (Some g) (given_by (after_acts c.run (x ∷ b ∷ between ++ drain count ∷ [])) q)) a_is first))

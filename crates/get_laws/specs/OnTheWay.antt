@@ -5,8 +5,8 @@ use Rattle.flow_model.specs.declared.order.Order.TheVariants.{Get}
 use Rattle.flow_model.specs.declared.flow.FlowEnd.{FlowEnd}
 use Rattle.store_model.specs.Run.{Saw, State, Outcome, opened}
 use Rattle.store_model.specs.Acts.{Act, takes, after_acts}
-use Rattle.serve_model.specs.Stores.{Given, given}
-use Rattle.serve_model.specs.Clusters.{Cluster, cluster, wait, asking, acts_to_end, number_in}
+use Rattle.serve_model.specs.Stores.{carry, Given, given}
+use Rattle.serve_model.specs.Clusters.{Cluster, cluster, wait, asking, delivered, acts_to_end, number_in}
 
 -- as many requests were asked for as the world has, and what phases gave is theirs, and so are the ends that wait to be taken
 pub record KnowsRequests (s : State) : Type 0 where
@@ -50,7 +50,7 @@ module _ (c : Cluster) (time : ℕ) (bucket key : List ℕ) where
 
   -- the state when all was delivered and two rounds are over
   abbrev pub finished : State
-  finished = after_acts asked_for.state (acts_to_end c.members)
+  finished = after_acts asked_for.state (acts_to_end c.members delivered)
 
   -- a state on the way there
   abbrev pub IsOnTheWay : State → Type 0
@@ -58,4 +58,4 @@ module _ (c : Cluster) (time : ℕ) (bucket key : List ℕ) where
 
   -- what is given in all
   abbrev pub given_in_all : Option Given
-  given_in_all = given (cluster.carries c time (Get bucket key))
+  given_in_all = given (cluster.carries c time (carry (Get bucket key)))

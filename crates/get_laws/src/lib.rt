@@ -1,17 +1,20 @@
-//! What gets give while they are on their way. No body does anything: each is called for its contract.
+//! What gets give and what uploads need while they are on their way. No body does anything: each is called for its
+//! contract.
 #![tactic(auto)]
 
-ghost use Rattle.std.specs.Prelude.{◌≡◌, ℕ, None, Some, Option, List};
+ghost use Rattle.std.specs.Prelude.{◌≡◌, ◌≤◌, ◌-◌, ◌++◌, ℕ, None, Some, Option, List, length, min};
 ghost use Rattle.crdt_rows.specs.declared.version.Version.{Version};
 ghost use Rattle.crdt_rows.specs.declared.body.Meta.{Meta};
 ghost use Rattle.layout_roles.specs.declared.cut.Cut.{Cut};
 ghost use Rattle.cluster_machine.specs.declared.step.Refusal.{Refusal};
 ghost use Rattle.flow_model.specs.declared.order.Order.TheVariants.{Get};
 ghost use Rattle.store_model.specs.Run.{State, start};
-ghost use Rattle.store_model.specs.Acts.{Act, AreLawfulActs, after_acts};
+ghost use Rattle.store_model.specs.Acts.{Act, AreLawfulActs, after_acts, end_of};
 ghost use Rattle.store_model.specs.Gets.{found_by};
+ghost use Rattle.serve_model.specs.declared.upload.Upload.{Upload};
 ghost use Rattle.serve_model.specs.Stores.{Given, IsFirstOf};
-ghost use Rattle.serve_model.specs.Clusters.{Cluster, cluster, given_by};
+ghost use Rattle.serve_model.specs.Clusters.{Cluster, cluster, given_by, round};
+ghost use Rattle.serve_model.specs.Uploads.{IsComing, asked_for as upload_asked, number_of as upload_number};
 ghost use Rattle.get_laws.specs.OnTheWay.{KnowsRequests, IsLater, next_request, opening, asked_for, IsTaken, number_of, finished, IsOnTheWay, given_in_all};
 
 /// In each state that lawful acts lead to, what phases gave and which ends wait to be taken is of requests that were asked
@@ -48,4 +51,14 @@ pub fn a_get_of_a_cluster_gives_all_of_it()
         cluster.gives c time (Get bucket key) g → IsFirstOf (Some g) (given_in_all c time bucket key) }
     ensures refused { (c : Cluster) (time : ℕ) (bucket key : List ℕ) (reason : Refusal Cut) →
         (asked_for c time bucket key).refused ≡ Some reason → given_in_all c time bucket key ≡ None }
+{}
+
+/// An upload on its way that needs bytes needs as many as a block has, or as are still to come; no more came than were
+/// announced. It has no end until it is kept or given up, whatever is worked off and delivered.
+pub fn an_upload_needs_what_is_still_to_come()
+    ensures needs { (c : Cluster) (time : ℕ) (u : Upload) (came : List ℕ) (size : ℕ) (s : State) → KnowsRequests c.run → IsComing c time u came (Some size) s →
+        size ≡ min c.run.block (u.length - length came) }
+    ensures within { (c : Cluster) (time : ℕ) (u : Upload) (came : List ℕ) (need : Option ℕ) (s : State) → KnowsRequests c.run → IsComing c time u came need s → length came ≤ u.length }
+    ensures endless { (c : Cluster) (time : ℕ) (u : Upload) (came : List ℕ) (need : Option ℕ) (s : State) → KnowsRequests c.run → IsComing c time u came need s → (upload_asked c time u).refused ≡ None →
+        end_of (after_acts s (round c.members ++ round c.members)).ends (upload_number c time u) ≡ None }
 {}

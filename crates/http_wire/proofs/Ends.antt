@@ -1,5 +1,5 @@
 -- How looking for the end of a head or of a body ends.
-use Rattle.std.proofs.Common.{◌≡◌, ◌⊎◌, inl, inr, ℕ, ◌<◌, List, ◌++◌, None, Result, Ok, Err, IfOk, IfErr, IsErrAnd, refl, sym, ◌∙◌, ap, subst, append-nil, length, take, drop}
+use Rattle.std.proofs.Common.{◌≡◌, ◌⊎◌, inl, inr, ℕ, ◌<◌, ◌≤◌, List, ◌++◌, None, Result, Ok, Err, IfOk, IfErr, IsErrAnd, refl, sym, ◌∙◌, ap, subst, append-nil, length, take, drop}
 use Rattle.lab_outside.specs.Connection.{Connection}
 use Rattle.lab_outside.specs.Rose.{Rose}
 use Rattle.http_model.specs.declared.head.Head.{Head}
@@ -19,7 +19,7 @@ handed_on R (Err x) e is h = let P : HeadEnd → Type 0 = λ y. R (Err y) in sub
 
 failed_later : (kept seen new : List ℕ) (c d f : Connection) → Takes kept seen c d → Fails seen new d f → Fails kept new c f
 failed_later kept seen new c d f t u =
-    (subst (λ n. Takes kept new c (record f { faults = n })) t.steady (takes_more kept seen new c d (record f { faults = d.faults }) t u.0), subst (λ n. Rose n f.faults) t.steady u.1)
+    (subst (λ n. Takes kept new c (record f { faults = n })) t.steady (takes_more kept seen new c d (record f { faults = d.faults }) t u.0), subst (λ n. Rose n f.faults) t.steady u.1, subst (λ n. n ≤ f.faults) t.steady u.2)
 
 pub piece_fails : (kept seen new : List ℕ) (e : HeadEnd) (c d f : Connection) → Takes kept seen c d → ReadsPiece seen (Err e) new d f → SeesEnd kept (Err e) new c f
 piece_fails kept seen new Closed c d f t u = absurd u

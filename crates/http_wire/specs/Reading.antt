@@ -1,5 +1,5 @@
 -- What the calls of this crate take from a connection, what they answer, and what they keep.
-use Rattle.std.specs.Prelude.{◌≡◌, ℕ, ◌<◌, List, ◌++◌, length, Option, Some, None, Result, Ok, Err, ⊤}
+use Rattle.std.specs.Prelude.{◌≡◌, ℕ, ◌<◌, ◌≤◌, List, ◌++◌, length, Option, Some, None, Result, Ok, Err, ⊤}
 use Rattle.std.specs.Io.KnownBytes.{Consumes, IsAtEnd}
 use Rattle.lab_outside.specs.Connection.{Connection}
 use Rattle.lab_outside.specs.Rose.{Rose}
@@ -19,7 +19,7 @@ pub record Takes (kept seen : List ℕ) (c d : Connection) : Type 0 where
 
 -- the same, but that a read failed then, and the connection's count of faults rose
 abbrev pub Fails : List ℕ → List ℕ → Connection → Connection → Type 0
-Fails kept seen c d = Takes kept seen c (record d { faults = c.faults }) × Rose c.faults d.faults
+Fails kept seen c d = Takes kept seen c (record d { faults = c.faults }) × Rose c.faults d.faults × (c.faults ≤ d.faults)
 
 -- the bytes were seen up to the head's end, and those read too far are kept
 pub record FindsHead (kept kept' : List ℕ) (P : List ℕ → Type 0) (c d : Connection) : Type 0 where

@@ -1,6 +1,7 @@
 //! A body, read from a connection.
 ghost use Rattle.std.specs.Prelude.{◌≡◌, ◌≤◌, length, take, drop, IsSome, IfOk, OnOk, OnErr};
-ghost use Rattle.lab_outside.specs.Connection.{OnPresent, Stays};
+ghost use Rattle.lab_outside.specs.Connection.{OnPresent};
+ghost use Rattle.lab_outside.specs.Links.{Stays};
 ghost use Rattle.http_wire.specs.Reading.{ReadsBody, IsBodyOf, OnAll};
 ghost use Rattle.http_wire.specs.Pieces.{FillsPlace};
 
@@ -39,7 +40,7 @@ fn fill<L: Link>(link: &mut L, place: &mut [u8], count: &mut usize) -> Result<()
     ensures size { length place.new ≡ length place.old }
     ensures within { count.new ≤ length place.old }
     ensures fills { OnPresent (FillsPlace (length place.old) (take count.old place.old) result (take count.new place.new)) (L.present link.old) (L.present link.new) }
-    ensures stays { Stays (L.coming link.old) (L.coming link.new) (L.past link.old) (L.past link.new) (L.faults link.old) (L.faults link.new) }
+    ensures stays { Stays L.Link link.old link.new }
 {
     'pieces: while *count < place.len() {
         let from = *count;
@@ -62,7 +63,7 @@ fn find_body<L: Link>(
     requires { IsSome (L.present link.old) }
     ensures present { IsSome (L.present link.new) }
     ensures reads { OnPresent (ReadsBody kept.old.bytes.items size result kept.new.bytes.items) (L.present link.old) (L.present link.new) }
-    ensures stays { Stays (L.coming link.old) (L.coming link.new) (L.past link.old) (L.past link.new) (L.faults link.old) (L.faults link.new) }
+    ensures stays { Stays L.Link link.old link.new }
 {
     let (mut place, mut count) = place_with_kept(alloc, size as usize, kept)?;
     match fill(link, place.as_mut_slice(), &mut count) {
@@ -93,7 +94,7 @@ pub fn read_body<L: Link>(
 
     // Where the connection tells its bytes: what all of them begin with.
     ensures told { OnPresent (OnAll (λ all rest. IsBodyOf all length result rest) kept.old.bytes.items kept.new.bytes.items) (L.present link.old) (L.present link.new) }
-    ensures stays { Stays (L.coming link.old) (L.coming link.new) (L.past link.old) (L.past link.new) (L.faults link.old) (L.faults link.new) }
+    ensures stays { Stays L.Link link.old link.new }
 {
     find_body(alloc, link, kept, length)
 }

@@ -1,6 +1,7 @@
 //! The pieces in which a connection's bytes come.
 ghost use Rattle.std.specs.Prelude.{◌≡◌, ◌<◌, ◌≤◌, ◌++◌, [], length, take, drop, IsSome, IfOk};
-ghost use Rattle.lab_outside.specs.Connection.{OnPresent, Stays};
+ghost use Rattle.lab_outside.specs.Connection.{OnPresent};
+ghost use Rattle.lab_outside.specs.Links.{Stays};
 ghost use Rattle.http_wire.specs.Pieces.{ReadsPiece};
 
 use crate::head::HeadEnd;
@@ -50,7 +51,7 @@ pub fn read_piece<L: Link>(
     ensures grows { IfOk result (λ n. kept.new.bytes.items ≡ kept.old.bytes.items ++ take n piece.new) }
     ensures piece { length piece.new ≡ length piece.old }
     ensures reads { OnPresent (ReadsPiece kept.old.bytes.items result kept.new.bytes.items) (L.present link.old) (L.present link.new) }
-    ensures stays { Stays (L.coming link.old) (L.coming link.new) (L.past link.old) (L.past link.new) (L.faults link.old) (L.faults link.new) }
+    ensures stays { Stays L.Link link.old link.new }
 {
     kept.bytes.reserve(piece.len())?;
     let count = link.read(piece)?;

@@ -1,6 +1,7 @@
 //! A head, read from a connection.
 ghost use Rattle.std.specs.Prelude.{◌≡◌, ◌≤◌, ◌⊎◌, length, take, drop, Err, IsSome, IfOk, IfErr};
-ghost use Rattle.lab_outside.specs.Connection.{OnPresent, Stays};
+ghost use Rattle.lab_outside.specs.Connection.{OnPresent};
+ghost use Rattle.lab_outside.specs.Links.{Stays};
 ghost use Rattle.http_model.specs.Heads.{IsHead, IsNoHead};
 ghost use Rattle.http_wire.specs.Reading.{ReadsHead, IsHeadOf, OnAll};
 ghost use Rattle.http_wire.specs.Pieces.{SeesEnd};
@@ -19,7 +20,7 @@ fn read_to_end<L: Link>(link: &mut L, kept: &mut Kept) -> Result<usize, HeadEnd>
     ensures present { IsSome (L.present link.new) }
     ensures within { IfOk result (λ end. end ≤ length kept.new.bytes.items) }
     ensures reads { OnPresent (SeesEnd kept.old.bytes.items result kept.new.bytes.items) (L.present link.old) (L.present link.new) }
-    ensures stays { Stays (L.coming link.old) (L.coming link.new) (L.past link.old) (L.past link.new) (L.faults link.old) (L.faults link.new) }
+    ensures stays { Stays L.Link link.old link.new }
 {
     let mut piece = [0; PIECE_SIZE];
     let mut search = Search::new();
@@ -64,7 +65,7 @@ fn find_head<L: Link>(alloc: Global, link: &mut L, kept: &mut Kept) -> Result<He
     requires { IsSome (L.present link.old) }
     ensures present { IsSome (L.present link.new) }
     ensures reads { OnPresent (ReadsHead kept.old.bytes.items result kept.new.bytes.items) (L.present link.old) (L.present link.new) }
-    ensures stays { Stays (L.coming link.old) (L.coming link.new) (L.past link.old) (L.past link.new) (L.faults link.old) (L.faults link.new) }
+    ensures stays { Stays L.Link link.old link.new }
 {
     let end = read_to_end(link, kept)?;
     take_head(alloc, kept, end)
@@ -83,7 +84,7 @@ pub fn read_head<L: Link>(alloc: Global, link: &mut L, kept: &mut Kept) -> Resul
 
     // Where the connection tells its bytes: what all of them begin with.
     ensures told { OnPresent (OnAll (λ all rest. IsHeadOf all result rest) kept.old.bytes.items kept.new.bytes.items) (L.present link.old) (L.present link.new) }
-    ensures stays { Stays (L.coming link.old) (L.coming link.new) (L.past link.old) (L.past link.new) (L.faults link.old) (L.faults link.new) }
+    ensures stays { Stays L.Link link.old link.new }
 {
     find_head(alloc, link, kept)
 }

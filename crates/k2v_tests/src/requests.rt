@@ -203,7 +203,7 @@ fn requests_for_items(rt: HostRuntime) -> Result<(), Fail> {
 /// Lines that no schedule over items has, and one that it has.
 #[test]
 fn lines_of_items(rt: HostRuntime) -> Result<(), Fail> {
-    let rows: [(&[u8], Status, &[u8]); 10] = [
+    let rows: [(&[u8], Status, &[u8]); 12] = [
         (b"trio\nblock 16\n", Status::Refused, b"bad line 2\n"),
         (b"get 1 pics a\n", Status::Refused, b"bad line 1\n"),
         (b"put 1 pics a 1 97\n", Status::Refused, b"bad line 1\n"),
@@ -220,6 +220,12 @@ fn lines_of_items(rt: HostRuntime) -> Result<(), Fail> {
         ),
         (b"kdel 17 pics p s 0\n", Status::Refused, b"bad line 1\n"),
         (b"kget 1 pics p s 0\n", Status::Refused, b"bad line 1\n"),
+        (b"kget 1 pics p \xff\n", Status::Refused, b"bad line 1\n"),
+        (
+            b"trio\nkput 1 pics caf\xc3\xa9 s 1 97 0\n",
+            Status::Refused,
+            b"bad line 2\n",
+        ),
         (
             b"kdel 1 pics p s 4294967296\n",
             Status::Refused,

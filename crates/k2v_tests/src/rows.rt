@@ -1,5 +1,5 @@
 //! Runs with what they tell, worked out by hand: values that two wrote side by side, a write that is replaced, and refusals.
-use crate::runs::told;
+use crate::runs::{faulty, played, told};
 use lab_outside::Status;
 use std::test::Fail;
 
@@ -73,5 +73,41 @@ fn k2v_busy_and_unknown_token(rt: HostRuntime) -> Result<(), Fail> {
     let (status, text) = told(rt.alloc(), BUSY_AND_UNKNOWN_TOKEN)?;
     assert_eq!(rt; status, Status::Done);
     assert_eq!(rt; text.as_slice(), BUSY_TOLD);
+    Ok(())
+}
+
+/// A read that fails leaves nothing written. Two give the input and its end; a third isn't made.
+#[test]
+fn kth_read_fails(rt: HostRuntime) -> Result<(), Fail> {
+    for (k, wanted) in [
+        (1, Status::ReadFault),
+        (2, Status::ReadFault),
+        (3, Status::Done),
+    ] {
+        let (status, text) = faulty(rt.alloc(), CONCURRENT_VALUES, k, 0)?;
+        assert_eq!(rt; status, wanted, "at read {k}");
+        assert_eq!(rt; text.is_empty(), k < 3, "at read {k}");
+    }
+    Ok(())
+}
+
+/// A write that fails leaves the text of the events before it: each of twelve is a write, and the lines of nodes are one.
+#[test]
+fn kth_write_fails(rt: HostRuntime) -> Result<(), Fail> {
+    let (_, whole) = played(rt.alloc(), CONCURRENT_VALUES)?;
+    let mut last = 0;
+    for k in 1..=13 {
+        let (status, text) = faulty(rt.alloc(), CONCURRENT_VALUES, 0, k)?;
+        assert_eq!(rt; status, Status::WriteFault, "at write {k}");
+        assert!(rt;
+            whole.starts_with(&text) && text.len() < whole.len(),
+            "at write {k}"
+        );
+        assert!(rt; k == 1 || last < text.len(), "at write {k}");
+        last = text.len();
+    }
+    let (status, text) = faulty(rt.alloc(), CONCURRENT_VALUES, 0, 14)?;
+    assert_eq!(rt; status, Status::Done);
+    assert!(rt; text == whole);
     Ok(())
 }

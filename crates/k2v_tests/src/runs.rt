@@ -12,12 +12,23 @@ fn is_left_out(line: &[u8]) -> bool {
         || line.starts_with(b"node ")
 }
 
-/// The status and the text of a run over this input.
-pub fn played(alloc: Global, input: &[u8]) -> Result<(Status, Vec<u8>), Fail> {
-    let mut source = MemSource::new(input.to_vec(alloc)?, Vec::new(alloc));
-    let mut sink = MemSink::new(alloc, Vec::new(alloc));
+/// The status and the text of a run over this input, of which the read and the write with these numbers fail, none where it is
+/// 0.
+pub fn faulty(
+    alloc: Global,
+    input: &[u8],
+    read: u64,
+    write: u64,
+) -> Result<(Status, Vec<u8>), Fail> {
+    let mut source = MemSource::new(input.to_vec(alloc)?, [read].to_vec(alloc)?);
+    let mut sink = MemSink::new(alloc, [write].to_vec(alloc)?);
     let status = k2v(alloc, &mut source, &mut sink);
     Ok((status, sink.bytes().to_vec(alloc)?))
+}
+
+/// The status and the text of a run over this input.
+pub fn played(alloc: Global, input: &[u8]) -> Result<(Status, Vec<u8>), Fail> {
+    faulty(alloc, input, 0, 0)
 }
 
 /// The same without the lines of single messages and of nodes.

@@ -1,12 +1,13 @@
 //! How a program of the laboratory begins and ends: its words, its input, its last text with the status that goes with it,
 //! and its exit code.
 //!
-//! `words` are those after the program's name. `read_input` reads the input whole, and `unread` says why there is none.
-//! `ends` writes a text whole and answers a status, or `WriteFault` after a first part of it (`Ends`); `usage` ends with the
-//! words that are known. `exit_code` is a status's number. What is said of the input and the output of every command is one
-//! record, `Edges`.
+//! `words` are those after the program's name, none where one of them is no text. `read_input` reads the input whole, and
+//! `unread` says why there is none. `ends` writes a text whole and answers a status, or `WriteFault` after a first part of it
+//! (`Ends`); `usage` ends with the words that are known. `exit_code` is a status's number. What is said of the input and the
+//! output of every command is one record, `Edges`.
 #![tactic(auto)]
 
+mod arguments;
 mod reader;
 
 ghost use Rattle.std.specs.Prelude.{◌≡◌, ◌≤◌, ◌⊎◌};
@@ -14,18 +15,10 @@ ghost use Rattle.std.specs.Process.{exit_status};
 ghost use Rattle.lab_outside.specs.Exit.{code_of};
 ghost use Rattle.lab_main.specs.Ends.{Ends, usage_line};
 
+pub use crate::arguments::words;
 pub use crate::reader::{InputStop, read_input, unread};
 use lab_outside::{Failed, Sink, Status, write_whole};
-use std::alloc::Global;
 use std::process::ExitCode;
-use std::rt::Env;
-use std::{env, io};
-
-/// The words after the program's name.
-pub fn words(rt: &(impl Env + Alloc<A = Global>)) -> io::Result<Vec<String>> {
-    let words = env::args(rt)?.skip(1).collect(rt.alloc())?;
-    Ok(words)
-}
 
 /// Writes the last text, and answers the status that goes with it.
 pub fn ends<O: Sink>(output: &mut O, text: &[u8], status: Status) -> Status

@@ -1,13 +1,15 @@
 -- What holds of the connection that is present, from one call to the next.
 use Rattle.std.proofs.Common.{◌≡◌, ℕ, List, drop, Option, Some, None, IsSome, Ok, refl, ◌∙◌}
-use Rattle.lab_outside.specs.Connection.{Connection, OnPresent, Stays, WritesTo}
+use Rattle.lab_outside.specs.declared.ports.Link as ports
+use Rattle.lab_outside.specs.Links.{Stays}
+use Rattle.lab_outside.specs.Connection.{Connection, OnPresent, WritesTo}
 use Rattle.lab_outside.proofs.Bytes.{Written, written_none, written_more}
 
-pub stays_none : (coming : Option (List (List ℕ))) (past : List Connection) (faults : ℕ) → Stays coming coming past past faults faults
-stays_none coming past faults = record { coming = refl; past = refl; faults = refl }
+pub stays_none : {L : Type 0} (l : ports.Ghosts L) (link : L) → Stays l link link
+stays_none l link = record { coming = refl; past = refl; open_at = refl; faults = refl }
 
-pub stays_more : (a b c : Option (List (List ℕ))) (p q r : List Connection) (x y z : ℕ) → Stays a b p q x y → Stays b c q r y z → Stays a c p r x z
-stays_more a b c p q r x y z s t = record { coming = t.coming ∙ s.coming; past = t.past ∙ s.past; faults = t.faults ∙ s.faults }
+pub stays_more : {L : Type 0} (l : ports.Ghosts L) (a b c : L) → Stays l a b → Stays l b c → Stays l a c
+stays_more l a b c s t = record { coming = t.coming ∙ s.coming; past = t.past ∙ s.past; open_at = t.open_at ∙ s.open_at; faults = t.faults ∙ s.faults }
 
 pub still_present : (R : Connection → Connection → Type 0) (o n : Option Connection) → IsSome o → OnPresent R o n → IsSome n
 still_present R None n h k = cc

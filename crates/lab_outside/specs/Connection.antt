@@ -50,12 +50,6 @@ pub record WritesTo {E : Type 0} (result : Result ℕ E) (piece : List ℕ) (c d
   pub steady : OnOk result (d.faults ≡ c.faults)
   pub unread : d.left ≡ c.left
 
--- the connections to come, those that are past, and the link's own count of faults stay
-pub record Stays (coming_old coming_new : Option (List (List ℕ))) (past_old past_new : List Connection) (faults_old faults_new : ℕ) : Type 0 where
-  pub coming : coming_new ≡ coming_old
-  pub past : past_new ≡ past_old
-  pub faults : faults_new ≡ faults_old
-
 -- all the bytes were written, and the connection's count of faults is as before; or a first part of them, and it rose
 pub record WritesWhole {E : Type 0} (result : Result Unit E) (bytes : List ℕ) (c d : Connection) : Type 0 where
   pub ok : OnOk result (Wrote c.written d.written bytes)

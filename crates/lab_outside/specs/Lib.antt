@@ -1,6 +1,7 @@
 pub mod Rose
 pub mod Bytes
 pub mod Connection
+pub mod Links
 pub mod Times
 pub mod Exit
 pub mod Calls

@@ -21,6 +21,7 @@ pub struct PieceLink {
     bytes: MemSource,
     size: usize,
     stage: Stage,
+    port: Option<u16>,
     ghost some: { 0 < size },
     ghost fresh: { IsTrue (is_fresh_at stage (source_faults bytes)) },
 }
@@ -40,6 +41,7 @@ impl PieceLink {
             bytes: MemSource::new(bytes, fails),
             size,
             stage: Stage::Coming,
+            port: None,
         }
     }
 }
@@ -56,7 +58,10 @@ impl Link for PieceLink {
 
     ghost faults = { λ _. 0 };
 
-    fn open(&mut self, _port: u16) -> Result<(), Failed> {
+    ghost open_at = { λ it. it.port };
+
+    fn open(&mut self, port: u16) -> Result<(), Failed> {
+        self.port = Some(port);
         Ok(())
     }
 

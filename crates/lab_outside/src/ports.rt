@@ -1,5 +1,5 @@
 // What the program reads from, writes to, serves and asks for the time.
-ghost use Rattle.std.specs.Prelude.{◌≡◌, ◌↔◌, ℕ, ◌<◌, ◌≤◌, List, ◌++◌, Option, length, take, true, IsSome, IfOk, OnOk, OnErr, IfSome, option_to_list};
+ghost use Rattle.std.specs.Prelude.{◌≡◌, ◌↔◌, ℕ, ◌<◌, ◌≤◌, List, ◌++◌, Option, Some, length, take, true, IsSome, IfOk, OnOk, OnErr, IfSome, option_to_list};
 ghost use Rattle.std.specs.Io.KnownBytes.{Consumes, IsAtEnd};
 ghost use Rattle.lab_outside.specs.Rose.{Rose};
 ghost use Rattle.lab_outside.specs.Bytes.{Wrote};
@@ -62,8 +62,13 @@ pub trait Link {
     /// The count of faults of `open` and `next`.
     ghost faults: { Self → ℕ };
 
+    /// The port at which it waits for connections, if it does.
+    ghost open_at: { Self → Option ℕ };
+
     /// Waits for connections on a port of this machine.
     fn open(&mut self, port: u16) -> Result<(), Failed>
+        ensures opens { OnOk result (open_at self.new ≡ Some port) }
+        ensures still_open { OnErr result (open_at self.new ≡ open_at self.old) }
         ensures still_coming { coming self.new ≡ coming self.old }
         ensures still_present { present self.new ≡ present self.old }
         ensures still_past { past self.new ≡ past self.old }
@@ -78,6 +83,7 @@ pub trait Link {
         ensures takes { IfOk result (λ _. TakesNext (coming self.old) (coming self.new) (present self.new)) }
         ensures kept { OnErr result (coming self.new ≡ coming self.old) }
         ensures goes { past self.new ≡ past self.old ++ option_to_list (present self.old) }
+        ensures still_open { open_at self.new ≡ open_at self.old }
         ensures counted { faults self.old ≤ faults self.new }
         ensures fault { OnErr result (Rose (faults self.old) (faults self.new)) }
         ensures steady { OnOk result (faults self.new ≡ faults self.old) };
@@ -88,6 +94,7 @@ pub trait Link {
         ensures reads { OnPresent (ReadsFrom result into.old into.new) (present self.old) (present self.new) }
         ensures still_coming { coming self.new ≡ coming self.old }
         ensures still_past { past self.new ≡ past self.old }
+        ensures still_open { open_at self.new ≡ open_at self.old }
         ensures uncounted { faults self.new ≡ faults self.old };
 
     /// Writes bytes from the front of `from` to the connection, and says how many.
@@ -96,6 +103,7 @@ pub trait Link {
         ensures writes { OnPresent (WritesTo result from.now) (present self.old) (present self.new) }
         ensures still_coming { coming self.new ≡ coming self.old }
         ensures still_past { past self.new ≡ past self.old }
+        ensures still_open { open_at self.new ≡ open_at self.old }
         ensures uncounted { faults self.new ≡ faults self.old };
 
     /// Ends the connection.
@@ -104,6 +112,7 @@ pub trait Link {
         ensures absent { present self.new ≡ None }
         ensures goes { past self.new ≡ past self.old ++ option_to_list (present self.old) }
         ensures still_coming { coming self.new ≡ coming self.old }
+        ensures still_open { open_at self.new ≡ open_at self.old }
         ensures uncounted { faults self.new ≡ faults self.old };
 }
 

@@ -1,6 +1,7 @@
 // Whole pieces of what a connection is sent.
 ghost use Rattle.std.specs.Prelude.{◌≡◌, ◌≤◌, IsSome};
-ghost use Rattle.lab_outside.specs.Connection.{OnPresent, Stays, WritesWhole};
+ghost use Rattle.lab_outside.specs.Connection.{OnPresent, WritesWhole};
+ghost use Rattle.lab_outside.specs.Links.{Stays};
 
 use crate::ports::{Failed, Link};
 
@@ -9,7 +10,7 @@ pub fn send_whole<L: Link>(link: &mut L, bytes: &[u8]) -> Result<(), Failed>
     requires { IsSome (L.present link.old) }
     ensures present { IsSome (L.present link.new) }
     ensures writes { OnPresent (WritesWhole result bytes.now) (L.present link.old) (L.present link.new) }
-    ensures stays { Stays (L.coming link.old) (L.coming link.new) (L.past link.old) (L.past link.new) (L.faults link.old) (L.faults link.new) }
+    ensures stays { Stays L.Link link.old link.new }
 {
     let mut rest = bytes;
     'writes: while !rest.is_empty() {

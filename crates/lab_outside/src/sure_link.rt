@@ -16,6 +16,7 @@ pub struct SureLink {
     coming: VecDeque<SureConnection>,
     present: Option<SureConnection>,
     past: Vec<SureConnection>,
+    port: Option<u16>,
     ghost room: { vec_len past + (if is_some present then 1 else 0) + deque_len coming ≤ vec_capacity past },
     ghost fresh: { AreFresh coming.items } by { Prim.hlevel props },
 }
@@ -37,6 +38,7 @@ impl SureLink {
             coming,
             present: None,
             past,
+            port: None,
         })
     }
 
@@ -59,6 +61,7 @@ impl SureLink {
         ensures present { self.new.present ≡ None }
         ensures past { self.new.past.items ≡ self.old.past.items ++ option_to_list self.old.present }
         ensures coming { self.new.coming ≡ self.old.coming }
+        ensures port { self.new.port ≡ self.old.port }
     {
         if let Some(connection) = self.present.take() {
             self.past.push_reserved(connection);
@@ -78,7 +81,10 @@ impl Link for SureLink {
 
     ghost faults = { λ _. 0 };
 
-    fn open(&mut self, _port: u16) -> Result<(), Failed> {
+    ghost open_at = { λ it. it.port };
+
+    fn open(&mut self, port: u16) -> Result<(), Failed> {
+        self.port = Some(port);
         Ok(())
     }
 

@@ -84,10 +84,12 @@ impl<R: Net + rt::Clock + Eprint + Drop> Link for TcpLink<R, R::Listener, R::Str
 
     ghost faults = { link_faults };
 
+    ghost open_at = { port_of };
+
     /// Listens on 127.0.0.1, and no longer on another port.
     fn open(&mut self, port: u16) -> Result<(), Failed>
         ensures opens { OnOk result (port_of self.new ≡ Some port) }
-        ensures kept { OnErr result (port_of self.new ≡ port_of self.old) }
+        ensures still_open { OnErr result (port_of self.new ≡ port_of self.old) }
         ensures still_present { present_of self.new ≡ present_of self.old }
         ensures still_past { past_of self.new ≡ past_of self.old }
         ensures counted { link_faults self.old ≤ link_faults self.new }
@@ -115,6 +117,7 @@ impl<R: Net + rt::Clock + Eprint + Drop> Link for TcpLink<R, R::Listener, R::Str
         ensures comes { IsSome (present_of self.new) ↔ (result ≡ Ok true) }
         ensures fresh { IfSome (present_of self.new) IsFresh }
         ensures goes { past_of self.new ≡ past_of self.old ++ option_to_list (present_of self.old) }
+        ensures still_open { port_of self.new ≡ port_of self.old }
         ensures counted { link_faults self.old ≤ link_faults self.new }
         ensures fault { OnErr result (Rose (link_faults self.old) (link_faults self.new)) }
         ensures steady { OnOk result (link_faults self.new ≡ link_faults self.old) }
@@ -122,7 +125,6 @@ impl<R: Net + rt::Clock + Eprint + Drop> Link for TcpLink<R, R::Listener, R::Str
         // None comes once so many are past, and only then; and one comes only where the link is open.
         ensures last { (result ≡ Ok false) ↔ (length (past_of self.new) ≡ connection_limit) }
         ensures listens { result ≡ Ok true → IsSome (port_of self.new) }
-        ensures port { port_of self.new ≡ port_of self.old }
     {
         self.settle();
         if self.past.len() == CONNECTIONS {

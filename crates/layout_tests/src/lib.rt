@@ -9,6 +9,8 @@ mod commands;
 #[cfg(test)]
 mod configs;
 #[cfg(test)]
+mod faults;
+#[cfg(test)]
 mod judged;
 #[cfg(test)]
 mod made;

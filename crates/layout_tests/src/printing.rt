@@ -63,7 +63,7 @@ const GATEWAY_TEXT: &[u8] =
     b"size 1953125000\nredundancy 2\np 0 255 1 2 3\ncut 1953125001 766\nc 0 255 up down z:lille z:paris\ncn 1 2\n";
 
 /// Node 4 takes the place of node 3, which leaves.
-const ONE_NODE_REPLACED: &[u8] = b"\
+pub const ONE_NODE_REPLACED: &[u8] = b"\
     [[node]]\n\
     id = 1\n\
     zone = 'a'\n\
@@ -105,7 +105,7 @@ const HALVES_IN_ONE_ZONE: &[u8] = b"\
     nodes = [1, 2, 3]\n";
 
 /// Three nodes, and no old sets.
-const NO_OLD_SETS: &[u8] = b"\
+pub const NO_OLD_SETS: &[u8] = b"\
     [[node]]\n\
     id = 1\n\
     zone = 'a'\n\
@@ -122,7 +122,7 @@ const NO_OLD_SETS: &[u8] = b"\
 const ID_OUT_OF_RANGE: &[u8] = b"node = [{ id = 65 }]";
 
 /// The status and the bytes of a run over this input.
-fn printed(alloc: Global, goal: Goal, input: &[u8]) -> Result<(Status, Vec<u8>), Fail> {
+pub fn printed(alloc: Global, goal: Goal, input: &[u8]) -> Result<(Status, Vec<u8>), Fail> {
     let mut source = MemSource::new(input.to_vec(alloc)?, Vec::new(alloc));
     let mut sink = MemSink::new(alloc, Vec::new(alloc));
     let status = run_layout(alloc, goal, &mut source, &mut sink);

@@ -1,9 +1,11 @@
 //! Bytes that came at once or piece by piece.
-ghost use Rattle.std.specs.Prelude.{◌≡◌, ℕ, List, ◌++◌, [], length, OnOk, OnErr, IfOk};
+ghost use Rattle.std.specs.Prelude.{◌≡◌, ℕ, List, ◌++◌, [], length, take, OnOk, OnErr, IfOk, IfSome};
 ghost use Rattle.std.specs.List.{concat};
+ghost use Rattle.blake2_hash.specs.Hash.{digest_of};
 ghost use Rattle.md5.specs.Md5.{md5};
 ghost use Rattle.crdt_core.specs.Outcomes.{OnlyWant};
 
+use blake2_hash::{Hash32, blake2b_256};
 use block_bytes::Block;
 use crdt_core::{Bytes, List, Memory};
 use md5::{Digest, Md5};
@@ -109,5 +111,33 @@ impl Pieces {
             hasher.update(block.as_slice());
         }
         hasher.finalize()
+    }
+
+    /// The hash of the first `size` bytes, or of all where there are fewer. Hashes nothing where they came block by block
+    /// and the first block is just these.
+    pub fn first_hash(self, size: u32) -> Result<Hash32, Memory>
+        ensures is { IfOk result (λ hash. hash ≡ digest_of (take size self)) }
+        ensures want { OnlyWant result }
+    {
+        if let Some(hash) = self.known_hash(size) {
+            return Ok(hash);
+        }
+        let bytes = self.into_bytes()?;
+        let count = bytes.len().min(size as usize);
+        Ok(blake2b_256(&bytes.as_slice()[..count]))
+    }
+
+    // The same where the first block is just these.
+    fn known_hash(&self, size: u32) -> Option<Hash32>
+        ensures { IfSome result (λ hash. hash ≡ digest_of (take size self.now)) }
+    {
+        if self.whole.len() > 0 {
+            return None;
+        }
+        match self.blocks.as_slice() {
+            [first, ..] if first.len() == size as usize => Some(*first.hash()),
+            [only] if only.len() <= size as usize => Some(*only.hash()),
+            _ => None,
+        }
     }
 }

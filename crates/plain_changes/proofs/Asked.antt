@@ -1,7 +1,7 @@
--- Orders that are asked, and what the changes after them hash: where all of it is such, it is such of each.
+-- Jobs that are asked, and what the changes after them hash: where all of it is such, it is such of each.
 use Rattle.std.specs.Prelude.{◌≡◌, ℕ, List, [], ◌∷◌, ◌++◌}
 use Rattle.std.specs.List.{AllByRecursion}
-use Rattle.std.proofs.Common.{subst, inl, inr}
+use Rattle.std.proofs.Common.{◌≡◌, true, subst, inl, inr}
 use Rattle.crdt_core.specs.Members.{OneOf}
 use Rattle.crdt_core.proofs.Each.{all_weaker}
 use Rattle.lab_outside.specs.Connection.{Connection}
@@ -9,14 +9,14 @@ use Rattle.serve_model.specs.declared.buckets.Buckets.{Buckets}
 use Rattle.serve_model.specs.Stores.{Asking, fits_asking}
 use Rattle.serve_model.specs.declared.served.ServeFault.{ServeFault}
 use Rattle.serve_model.specs.Talk.{Grammar, Serving, Stop, Halt, request_limit}
-use Rattle.serve_model.specs.Connections.{IsPrefixOf, stated, IsUpTo, IsInto, IsServed, exact, part, AreServed, EndsSo, too_many, begun, halted}
+use Rattle.serve_model.specs.Connections.{IsPrefixOf, stated, IsUpTo, IsInto, WasSteady, IsServed, exact, part, AreServed, EndsSo, too_many, begun, halted}
 use Rattle.serve_model.proofs.Ones.{one_left}
 use Rattle.serve_model.proofs.Halting.{Within, talk_within}
 use Rattle.serve_changes.specs.Changing.{Changing, changing, changing_fits}
 use Rattle.plain_changes.specs.Changing.{HashesAfter, SomeAfter, IsServedHash}
 
 module _ (IsHash : List ℕ → Type 0) where
-  -- the order may be asked, and what the change after it hashes is such
+  -- the job may be asked, and what the change after it hashes is such
   abbrev pub MaySuch : Asking Changing → Type 0
   MaySuch a = fits_asking changing_fits a × ((x : List ℕ) → HashesAfter x a → IsHash x)
 
@@ -57,11 +57,11 @@ module _ (IsHash : List ℕ → Type 0) where
 
     one_served : (p : Serving Changing) (bytes : List ℕ) (d : Connection) (mid : Serving Changing) → IsServed changing buckets g (fits_asking changing_fits) p bytes d mid →
         ((x : List ℕ) → SomeAfter x (stated changing buckets g p bytes).asks (stated changing buckets g p bytes).stops → IsHash x) → IsServed changing buckets g MaySuch p bytes d mid
-    one_served p bytes d mid (exact over text fit same) f = exact over text (all_may (stated changing buckets g p bytes).asks fit (λ x h. f x (inl h))) same
+    one_served p bytes d mid (exact over text fit none same) f = exact over text (all_may (stated changing buckets g p bytes).asks fit (λ x h. f x (inl h))) none same
     one_served p bytes d mid (part rose one) f = part rose (up_to d (λ (stop : Stop Changing). mid ≡ stop.serving) (stated changing buckets g p bytes).stops (λ x h. f x (inr h)) one)
 
     behind_it : (p : Serving Changing) (bytes : List ℕ) (d : Connection) (mid : Serving Changing) (more : List (List ℕ)) (ds : List Connection) → IsServed changing buckets g (fits_asking changing_fits) p bytes d mid → (x : List ℕ) → IsServedHash buckets g mid more ds x → IsServedHash buckets g p (bytes ∷ more) (d ∷ ds) x
-    behind_it p bytes d mid more ds (exact over text fit same) x h = inr (inl (subst (λ (q : Serving Changing). IsServedHash buckets g q more ds x) same h))
+    behind_it p bytes d mid more ds (exact over text fit none same) x h = inr (inl (subst (λ (q : Serving Changing). IsServedHash buckets g q more ds x) same h))
     behind_it p bytes d mid more ds (part rose one) x h = inr (inr (from_stop more ds x mid (IsUpTo changing buckets g (fits_asking changing_fits) d) (stated changing buckets g p bytes).stops one h))
 
     pub served_such : (rest : List (List ℕ)) (ds : List Connection) (came : List (List ℕ)) (gone : List Connection) (p s : Serving Changing) → AreServed changing buckets g (fits_asking changing_fits) p came gone s →
@@ -74,7 +74,7 @@ module _ (IsHash : List ℕ → Type 0) where
         let behind = served_such rest ds came gone served.0 s served.2 (λ x h. f x (behind_it p bytes d served.0 (came ++ rest) (gone ++ ds) one x h)) in
         record { served = (served.0, one_served p bytes d served.0 one (λ x h. f x (inl h)), behind.served); others = behind.others }
 
-    -- so it is of the orders before a get in the middle of which serving is given up, which are the first of all
+    -- so it is of the jobs before a get in the middle of which serving is given up, which are the first of all
     into_get : (d : Connection) (asks : List (Asking Changing)) (halts : List (Halt Changing)) → ((x : List ℕ) → OneOf (HashesAfter x) asks → IsHash x) → AllByRecursion (λ (h : Halt Changing). IsPrefixOf h.asks asks) halts →
         OneOf (IsInto changing buckets g (fits_asking changing_fits) d) halts → OneOf (IsInto changing buckets g MaySuch d) halts
     into_get d asks [] f first h = absurd h
@@ -83,10 +83,16 @@ module _ (IsHash : List ℕ → Type 0) where
       | inr there ↦ inr (into_get d asks halts f first.1 there)
     ]
 
+    -- where the client of an upload was lost
+    was_steady : (d : Connection) (stops : List (Stop Changing)) → ((x : List ℕ) → OneOf (λ (stop : Stop Changing). OneOf (HashesAfter x) stop.asks) stops → IsHash x) → WasSteady changing buckets g (fits_asking changing_fits) d stops → WasSteady changing buckets g MaySuch d stops
+    was_steady d stops f (inl none) = inl none
+    was_steady d stops f (inr (rose, lost)) = inr (rose, up_to d (λ (stop : Stop Changing). stop.uploads ≡ true) stops f lost)
+
     pub ends_such : (p : Serving Changing) (bytes : List ℕ) (d : Connection) (fault : ServeFault) (overflows : List (Asking Changing) → Type 0) → (let t = stated changing buckets g p bytes in
         ((x : List ℕ) → SomeAfter x t.asks t.stops → IsHash x) → EndsSo changing buckets g (fits_asking changing_fits) overflows t d fault → EndsSo changing buckets g MaySuch overflows t d fault)
-    ends_such p bytes d fault overflows f (too_many over text fit) = too_many over text (all_may (stated changing buckets g p bytes).asks fit (λ x h. f x (inl h)))
-    ends_such p bytes d fault overflows f (begun e gives one) = begun e gives (up_to_stop d (stated changing buckets g p bytes).stops (λ x h. f x (inr h)) one)
+    ends_such p bytes d fault overflows f (too_many over text fit none) = too_many over text (all_may (stated changing buckets g p bytes).asks fit (λ x h. f x (inl h))) none
+    ends_such p bytes d fault overflows f (begun e gives one steady) =
+        begun e gives (up_to_stop d (stated changing buckets g p bytes).stops (λ x h. f x (inr h)) one) (was_steady d (stated changing buckets g p bytes).stops (λ x h. f x (inr h)) steady)
     ends_such p bytes d fault overflows f (halted e gives one) =
         let t = stated changing buckets g p bytes in
         halted e gives (into_get d t.asks t.halts (λ x h. f x (inl h)) (all_weaker (Within changing t.text t.asks) (λ (h : Halt Changing). IsPrefixOf h.asks t.asks) (λ h k. k.1) t.halts (talk_within changing buckets g request_limit p bytes)) one)

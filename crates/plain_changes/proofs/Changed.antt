@@ -235,6 +235,8 @@ module _ (c : Cluster) (P : Plain) (h : Holds c P) (new : Layout) (part : List �
       skews = λ n. at_end (λ u. u.skew_of n ≡ 0) (time.skews n ∙ h.skews n);
       equal = equal;
       stocked = stocked;
+      given_up = h.given_up;
+      are_given_up = h.are_given_up;
       rows = λ name n known here.
           (let step = asks_is_step 0 name in
           let p = partition_at (digest_of name.bucket).0 in

@@ -1,4 +1,4 @@
--- The change after an order leaves the map.
+-- The change after a job leaves the map.
 use Rattle.std.specs.Prelude.{◌≡◌, ◌==◌, ℕ, true, false, cond, List, [], ◌∷◌, length}
 use Rattle.std.proofs.Common.{sym, subst}
 use Rattle.layout_roles.specs.declared.layout.Layout.{Layout}

@@ -1,4 +1,4 @@
--- A cluster answers orders as the map does, through any number of layout changes.
+-- A cluster answers jobs as the map does, through any number of layout changes.
 use Rattle.std.specs.Prelude.{◌≡◌, ◌≤◌, ℕ, true, Bool, false, cond, IsTrue, Some, None, List, [], ◌∷◌, refl}
 use Rattle.std.specs.Option.{unwrap_or}
 use Rattle.std.proofs.Common.{ap, sym, subst, ◌∙◌, arith}
@@ -24,10 +24,10 @@ use Rattle.machine_laws.proofs.Runs.{goes, reached_all, follows_empty}
 use Rattle.machine_laws.proofs.Controls.{turned}
 use Rattle.control_model.specs.Steps.{run as turn_all}
 use Rattle.world_laws.proofs.Sets.{first_is_layout}
-use Rattle.flow_model.specs.declared.order.Order.{Order}
 use Rattle.store_model.specs.Fresh.{NoClash}
 use Rattle.store_model.specs.Run.{start}
 use Rattle.store_model.specs.Acts.{installs, acted}
+use Rattle.serve_model.specs.Stores.{Job}
 use Rattle.serve_model.specs.Clusters.{Cluster, cluster, fits, acts_at}
 use Rattle.serve_model.specs.Plain.{Plain, plain, AreApart}
 use Rattle.drained_laws.specs.Calm.{IsMember}
@@ -37,12 +37,12 @@ use Rattle.change_laws.proofs.Reached.{reached_rests}
 use Rattle.plain_laws.specs.Blocks.{IsBlockAt}
 use Rattle.plain_laws.specs.Holds.{Holds}
 use Rattle.plain_laws.proofs.First.{first_holds}
-use Rattle.plain_laws.proofs.Stores.{carries_grow, order_follows}
+use Rattle.plain_laws.proofs.Stores.{carries_grow, job_follows}
 use Rattle.plain_changes.specs.Standing.{Standing, after_change}
-use Rattle.plain_changes.specs.Events.{Event, orders, changes, ends_in, EventsFit, AnswersThrough}
+use Rattle.plain_changes.specs.Events.{Event, asks, changes, EventsFit, AnswersThrough}
 use Rattle.plain_changes.proofs.FirstRests.{first_rests}
 use Rattle.plain_changes.proofs.Modest.{AllSaid, IsTame, GoesOn}
-use Rattle.plain_changes.proofs.Ordered.{acts_go, order_orderly}
+use Rattle.plain_changes.proofs.Ordered.{acts_go, job_orderly}
 use Rattle.plain_changes.proofs.Standing.{stands_on}
 
 -- ---- the layout of a map
@@ -63,14 +63,14 @@ layout_is c P h l layout members alone =
     first_of [] = l
     first_of (x ∷ xs) = x
 
--- ---- one order
+-- ---- one job
 
-module _ (c : Cluster) (P : Plain) (l : Layout) (stands : Standing c P l) (clash : NoClash P.buckets) (some : 1 ≤ P.block) (time : ℕ) (order : Order) (apart : AreApart (IsBlockAt c P order)) (fit : fits c time order) where
+module _ (c : Cluster) (P : Plain) (l : Layout) (stands : Standing c P l) (clash : NoClash P.buckets) (some : 1 ≤ P.block) (time : ℕ) (job : Job) (apart : AreApart (IsBlockAt c P job)) (fit : fits c time job) where
   abbrev then : Cluster
-  then = (cluster.carries c time order).state
+  then = (cluster.carries c time job).state
 
   abbrev now : Plain
-  now = (plain.carries P time order).state
+  now = (plain.carries P time job).state
 
   is_layout : IsLayout layouts 256 l
   is_layout = subst (IsLayout layouts 256) stands.at stands.holds.is_layout
@@ -79,10 +79,10 @@ module _ (c : Cluster) (P : Plain) (l : Layout) (stands : Standing c P l) (clash
   tame = record { matched = stands.rest.marked; said = subst AllSaid (sym stands.rest.delivered) tt }
 
   goes_there : GoesOn c.run.world then.run.world
-  goes_there = acts_go (acts_at c time order) c.run (order_orderly c time order) tame
+  goes_there = acts_go (acts_at c time job) c.run (job_orderly c time job) tame
 
   pub holds_then : Holds then now
-  holds_then = (order_follows c P time order stands.holds clash some apart fit).agrees.holds
+  holds_then = (job_follows c P time job stands.holds clash some apart fit).agrees.holds
 
   alone : (n : ℕ) → IsMember layouts l n → (then.run.world.nodes n).view.layouts ≡ l ∷ []
   alone n member = goes_there.layouts_stay n ∙ (stands.rest.members n member).layouts
@@ -98,21 +98,20 @@ module _ (c : Cluster) (P : Plain) (l : Layout) (stands : Standing c P l) (clash
     holds = holds_then;
     at = layout_is then now holds_then l is_layout members_are alone;
     rest = reached_rests layouts then.run.world follows_then l is_layout alone (goes_there.versions_stay ∙ stands.rest.applied) holds_then.rest.calls holds_then.rest.marked holds_then.rest.delivered;
-    apart = λ a b here there same. apart a b ((order_follows c P time order stands.holds clash some apart fit).keeps a here) ((order_follows c P time order stands.holds clash some apart fit).keeps b there) same;
+    apart = λ a b here there same. apart a b ((job_follows c P time job stands.holds clash some apart fit).keeps a here) ((job_follows c P time job stands.holds clash some apart fit).keeps b there) same;
     follows = follows_then;
   }
 
 -- ---- all of them
 
 pub answers_through : (c : Cluster) (P : Plain) (l : Layout) → Standing c P l → NoClash P.buckets → 1 ≤ P.block → (es : List Event) → EventsFit c P l es → AnswersThrough c P l es
-answers_through c P l stands clash some [] fit = record { ends = refl; stands = stands }
-answers_through c P l stands clash some (orders time order ∷ es) fit =
-    let grown = carries_grow P time order in
-    let rest = answers_through (cluster.carries c time order).state (plain.carries P time order).state l (stands_then c P l stands clash some time order fit.0 fit.1)
+answers_through c P l stands clash some [] fit = record { ends = tt; stands = stands }
+answers_through c P l stands clash some (asks time job ∷ es) fit =
+    let grown = carries_grow P time job in
+    let rest = answers_through (cluster.carries c time job).state (plain.carries P time job).state l (stands_then c P l stands clash some time job fit.0 fit.1)
     (subst NoClash (sym grown.buckets) clash) (subst (λ b. 1 ≤ b) (sym grown.block) some) es fit.2 in
     record {
-      ends = ap (λ e. e ∷ ends_in (cluster.carries c time order).state es) (order_follows c P time order stands.holds clash some fit.0 fit.1).agrees.end
-          ∙ ap (λ es'. (plain.carries P time order).end ∷ es') rest.ends;
+      ends = ((job_follows c P time job stands.holds clash some fit.0 fit.1).agrees.end, rest.ends);
       stands = rest.stands;
     }
 answers_through c P l stands clash some (changes ch ∷ es) fit =

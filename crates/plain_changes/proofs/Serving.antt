@@ -5,19 +5,20 @@ use Rattle.std.specs.List.{AllByRecursion}
 use Rattle.crdt_core.specs.Members.{OneOf}
 use Rattle.lab_outside.specs.Connection.{Connection}
 use Rattle.cluster_machine.specs.Hashes.{NoClash as NoWalkClash}
-use Rattle.flow_model.specs.declared.order.Order.{Order}
 use Rattle.store_model.specs.Fresh.{NoClash}
 use Rattle.serve_model.specs.declared.buckets.Buckets.{Buckets}
-use Rattle.serve_model.specs.Stores.{Asking, fits_asking}
+use Rattle.serve_model.specs.Stores.{Job, Asking, IsLeftFor, fits_asking}
+use Rattle.serve_model.specs.Told.{TellSame}
 use Rattle.serve_model.specs.declared.served.ServeFault.{ServeFault}
 use Rattle.serve_model.specs.Talk.{Grammar, Serving, Stop, turn, talk, request_limit}
 use Rattle.serve_model.specs.Connections.{stated, AreServed, SomeAsked, EndsSo}
-use Rattle.serve_model.specs.Plain.{Plain, has_at, plain, IsPiece, PutsBlock, AreApart}
+use Rattle.serve_model.specs.Plain.{Plain, plain, PutsBlock, AreApart}
 use Rattle.serve_model.proofs.Alike.{AnswerAlike, Serves, Stops, TurnsSo, turn_alike, AllMeant, ServedAlike, served_alike, ended_alike}
+use Rattle.serve_model.proofs.Blocks.{left_puts}
 use Rattle.serve_model.proofs.Ones.{one_weaker}
-use Rattle.plain_laws.specs.Blocks.{IsKept, body_in, body_written, IsBlockAt, IsOfMap}
+use Rattle.plain_laws.specs.Blocks.{IsKept, WritesPiece, IsBlockAt, IsOfMap}
 use Rattle.plain_laws.proofs.Giving.{gives_as_the_map}
-use Rattle.plain_laws.proofs.Stores.{written_or_put, carries_grow, order_follows}
+use Rattle.plain_laws.proofs.Stores.{written_or_put, map_or_written, carries_grow, job_follows}
 use Rattle.serve_model.specs.Clusters.{cluster}
 use Rattle.serve_changes.specs.Changing.{Changing, changing, changing_fits}
 use Rattle.plain_changes.specs.Changing.{HashesAfter, StandsWith, over_map, IsServedBlock, IsServedHash, AreServedFrom, EndsFrom, IsTurnBlock, IsTurnHash, IsTurnFrom, IsAtMapStop, AreStopsFrom}
@@ -36,34 +37,30 @@ module _ (IsSuch IsHash : List ℕ → Type 0) (apart : AreApart IsSuch) (clear 
     kept : (bytes : List ℕ) → IsKept c.cluster.run.world bytes → IsSuch bytes
     of_map : (bytes : List ℕ) → IsOfMap P bytes → IsSuch bytes
 
-  module _ (c : Changing) (P : Plain) (time : ℕ) (order : Order) (h : HoldsSuch c P) (fit : MaySuch IsHash (record { state = c; time = time; order = order })) (ask : PutsSuch (record { state = P; time = time; order = order })) where
-    written_is_such : (bytes : List ℕ) → IsPiece P.block (body_written P order) bytes → IsSuch bytes
-    written_is_such bytes p = elim (written_or_put P order bytes p) [
+  module _ (c : Changing) (P : Plain) (time : ℕ) (job : Job) (h : HoldsSuch c P) (fit : MaySuch IsHash (record { state = c; time = time; job = job })) (ask : PutsSuch (record { state = P; time = time; job = job })) where
+    written_is_such : (bytes : List ℕ) → WritesPiece P job bytes → IsSuch bytes
+    written_is_such bytes p = elim (written_or_put P job bytes p) [
       | inl was ↦ h.of_map bytes was
       | inr put ↦ ask bytes put
     ]
 
-    here_is_such : (bytes : List ℕ) → IsBlockAt c.cluster P order bytes → IsSuch bytes
+    here_is_such : (bytes : List ℕ) → IsBlockAt c.cluster P job bytes → IsSuch bytes
     here_is_such bytes (inl kept) = h.kept bytes kept
     here_is_such bytes (inr p) = written_is_such bytes p
 
-    later_is_such : (bytes : List ℕ) → IsOfMap (plain.carries P time order).state bytes → IsSuch bytes
-    later_is_such bytes m =
-        let g = carries_grow P time order in
-        let Q = (plain.carries P time order).state in
-        let p : IsPiece P.block (body_in (has_at Q m.0)) bytes = subst (λ b. IsPiece b (body_in (has_at Q m.0)) bytes) g.block m.1 in
-        elim (g.bodies m.0) [
-          | inl e ↦ h.of_map bytes (m.0, subst (λ body. IsPiece P.block body bytes) e p)
-          | inr e ↦ written_is_such bytes (subst (λ body. IsPiece P.block body bytes) e p)
-        ]
+    later_is_such : (bytes : List ℕ) → IsOfMap (plain.carries P time job).state bytes → IsSuch bytes
+    later_is_such bytes m = elim (map_or_written P time job bytes m) [
+      | inl was ↦ h.of_map bytes was
+      | inr p ↦ written_is_such bytes p
+    ]
 
-    agrees : ((changing.carries c time order).end ≡ (plain.carries P time order).end) × ((changing.carries c time order).begun ≡ (plain.carries P time order).begun) × HoldsSuch (changing.carries c time order).state (plain.carries P time order).state
+    agrees : TellSame (changing.carries c time job).end (plain.carries P time job).end × ((changing.carries c time job).begun ≡ (plain.carries P time job).begun) × HoldsSuch (changing.carries c time job).state (plain.carries P time job).state
     agrees =
-        let here : AreApart (IsBlockAt c.cluster P order) = λ a b x y e. apart a b (here_is_such a x) (here_is_such b y) e in
-        let f = order_follows c.cluster P time order h.map.stands.holds h.map.clash h.map.some here fit.0.0 in
-        let g = carries_grow P time order in
-        let now = stands_then c.cluster P h.map.layout h.map.stands h.map.clash h.map.some time order here fit.0.0 in
-        let due = due_so (cluster.carries c.cluster time order).state (plain.carries P time order).state h.map.layout now c.to_come h.map.may fit.0.1
+        let here : AreApart (IsBlockAt c.cluster P job) = λ a b x y e. apart a b (here_is_such a x) (here_is_such b y) e in
+        let f = job_follows c.cluster P time job h.map.stands.holds h.map.clash h.map.some here fit.0.0 in
+        let g = carries_grow P time job in
+        let now = stands_then c.cluster P h.map.layout h.map.stands h.map.clash h.map.some time job here fit.0.0 in
+        let due = due_so (cluster.carries c.cluster time job).state (plain.carries P time job).state h.map.layout now c.to_come h.map.may fit.0.1
         (record { apart = λ x y a b e. clear.apart x y (fit.1 x a) (fit.1 y b) e; some = λ x a. clear.some x (fit.1 x a) }) in (
           f.agrees.end,
           f.agrees.begun,
@@ -74,12 +71,16 @@ module _ (IsSuch IsHash : List ℕ → Type 0) (apart : AreApart IsSuch) (clear 
           },
         )
 
+  -- an upload that is given up earlier puts no other blocks
+  earlier_such : (a b : Asking Plain) → IsLeftFor a b → PutsSuch b → PutsSuch a
+  earlier_such a b left such bytes puts = such bytes (left_puts bytes a b left puts)
+
   -- the cluster answers as the map does, and gives as it does in the middle of a get
   answers : AnswerAlike changing plain HoldsSuch (MaySuch IsHash) PutsSuch
-  answers = record { answers = agrees; gives = λ c P time bucket key g h gives. gives_as_the_map c.cluster P time bucket key g h.map.stands.holds gives }
+  answers = record { answers = agrees; earlier = earlier_such; gives = λ c P time bucket key g h gives. gives_as_the_map c.cluster P time bucket key g h.map.stands.holds gives }
 
   module _ (buckets : Buckets) (g : Grammar) where
-    -- orders whose blocks are such put such blocks
+    -- jobs whose blocks are such put such blocks
     all_such : (asks : List (Asking Plain)) → ((bytes : List ℕ) → OneOf (PutsBlock bytes) asks → IsSuch bytes) → AllByRecursion PutsSuch asks
     all_such [] f = tt
     all_such (a ∷ asks) f = ((λ bytes h. f bytes (inl h)), all_such asks (λ bytes h. f bytes (inr h)))

@@ -25,9 +25,9 @@ use Rattle.plain_changes.specs.Standing.{Standing, IsStaging, TakesAll}
 
 -- ---- what is hashed
 
--- the strings that the change after an order hashes for walks, if one is made
+-- the strings that the change after a job hashes for walks, if one is made
 abbrev pub HashesAfter : List ℕ → Asking Changing → Type 0
-HashesAfter x a = let then = (cluster.carries a.state.cluster a.time a.order).state in ActsHash then.run (acts_due then a.state.to_come) x
+HashesAfter x a = let then = (cluster.carries a.state.cluster a.time a.job).state in ActsHash then.run (acts_due then a.state.to_come) x
 
 -- ---- what it holds
 
@@ -61,7 +61,7 @@ over_map P p = record { store = P; times = p.times; time = p.time; kept = p.kept
 abbrev pub IsServedBlock : Buckets → Grammar → Serving Changing → Plain → List (List ℕ) → List Connection → List ℕ → Type 0
 IsServedBlock buckets g p P came gone bytes = IsKept p.store.cluster.run.world bytes ⊎ (IsOfMap P bytes ⊎ SomeAsked plain buckets g (PutsBlock bytes) (over_map P p) came gone)
 
--- a change hashes this string for walks after an order that is asked, or would be asked before a stop
+-- a change hashes this string for walks after a job that is asked, or would be asked before a stop
 abbrev pub SomeAfter : List ℕ → List (Asking Changing) → List (Stop Changing) → Type 0
 SomeAfter x asks stops = OneOf (HashesAfter x) asks ⊎ OneOf (λ (stop : Stop Changing). OneOf (HashesAfter x) stop.asks) stops
 
@@ -89,7 +89,7 @@ pub record EndsFrom (P : Plain) (buckets : Buckets) (g : Grammar) (p : Serving C
 abbrev pub IsTurnBlock : Buckets → Grammar → Bool → Serving Changing → Plain → List ℕ → List ℕ → Type 0
 IsTurnBlock buckets g last p P request bytes = IsKept p.store.cluster.run.world bytes ⊎ (IsOfMap P bytes ⊎ OneOf (PutsBlock bytes) (turn plain buckets g last (over_map P p) request).asks)
 
--- a change hashes this string for walks after an order of one request, wherever it may be cut off
+-- a change hashes this string for walks after a job of one request, wherever it may be cut off
 abbrev pub IsTurnHash : Buckets → Grammar → Bool → Serving Changing → List ℕ → List ℕ → Type 0
 IsTurnHash buckets g last p request x = let t = turn changing buckets g last p request in SomeAfter x t.asks t.stops
 
@@ -103,6 +103,6 @@ pub record IsTurnFrom (P : Plain) (buckets : Buckets) (g : Grammar) (last : Bool
 abbrev pub IsAtMapStop : Plain → Buckets → Grammar → Bool → Serving Changing → List ℕ → Stop Changing → Type 0
 IsAtMapStop P buckets g last p request s = OneOf (λ (r : Stop Plain). (s.text ≡ r.text) × StandsWith s.serving.store r.serving.store) (turn plain buckets g last (over_map P p) request).stops
 
--- so it is wherever the first request in these bytes may be cut off and each order that was asked before fits
+-- so it is wherever the first request in these bytes may be cut off and each job that was asked before fits
 abbrev pub AreStopsFrom : Plain → Buckets → Grammar → Bool → Serving Changing → List ℕ → Type 0
 AreStopsFrom P buckets g last p request = AllByRecursion (λ (s : Stop Changing). AllByRecursion (fits_asking changing_fits) s.asks → IsAtMapStop P buckets g last p request s) (turn changing buckets g last p request).stops

@@ -18,11 +18,10 @@ ghost use Rattle.object_schema.specs.Schema.{words};
 ghost use Rattle.store_model.specs.Fresh.{NoClash};
 ghost use Rattle.store_model.specs.Run.{World, start};
 ghost use Rattle.store_model.specs.Acts.{Act, installs, acted, after_acts, AreLawfulActs, ActsFit};
-ghost use Rattle.flow_model.specs.declared.order.Order.{Order};
 ghost use Rattle.lab_outside.specs.Connection.{Connection};
 ghost use Rattle.serve_model.specs.declared.buckets.Buckets.{Buckets};
 ghost use Rattle.serve_model.specs.declared.served.ServeFault.{ServeFault};
-ghost use Rattle.serve_model.specs.Stores.{fits_asking, after_orders, OrdersFit};
+ghost use Rattle.serve_model.specs.Stores.{Job, fits_asking, after_jobs, JobsFit};
 ghost use Rattle.serve_model.specs.Talk.{Grammar, Serving, turn};
 ghost use Rattle.serve_model.specs.Connections.{stated, AreServed, EndsSo};
 ghost use Rattle.serve_model.specs.Clusters.{Cluster};
@@ -70,7 +69,7 @@ pub fn changes_keep_the_map()
     ensures { (c : Cluster) (P : Plain) (l : Layout) → Standing c P l → (changes : List Change) → MayFollow l c.run changes → Standing (after_changes c changes) P (last_of l changes) }
 {}
 
-/// A cluster that stands with a map on a layout answers orders as the map does, one after the other, with any number of layout
+/// A cluster that stands with a map on a layout answers jobs as the map does, one after the other, with any number of layout
 /// changes between them, and then stands with what the map has become on the last layout; where blocks have a byte at
 /// least, no two names of buckets have one digest, neither have two blocks, and neither have two strings that one change
 /// hashes for walks. So it is from a first layout on, where the map is empty at first.
@@ -92,7 +91,7 @@ pub fn lawful_changes_may_be_made()
 {}
 
 /// Connections to a cluster with layout changes to come are served as from the map: each change is made when so many requests
-/// have reached the cluster, between two of them. The digests of what changes hash for walks after these orders don't clash.
+/// have reached the cluster, between two of them. The digests of what changes hash for walks after these jobs don't clash.
 pub fn connections_are_served_through_changes()
     ensures served { (buckets : Buckets) (g : Grammar) (p s : Serving Changing) (P : Plain) (came : List (List ℕ)) (gone : List Connection) → StandsWith p.store P → AreApart (IsServedBlock buckets g p P came gone) → NoWalkClash (IsServedHash buckets g p came gone) →
         AreServed changing buckets g (fits_asking changing_fits) p came gone s → AreServedFrom P buckets g p came gone s }
@@ -118,11 +117,11 @@ pub fn a_first_layout_stands_with_the_empty_map()
         (record { buckets = buckets; block = block; clock = 0; ticked = 0; asked = 0; entries = [] }) }
 {}
 
-/// What a cluster with changes to come does is a run of acts, those of the orders and of the changes between them; so what is
+/// What a cluster with changes to come does is a run of acts, those of the jobs and of the changes between them; so what is
 /// proved of every run of lawful acts holds of it.
 pub fn changing_stores_go_through_runs()
-    ensures leads { (c : Changing) (orders : List (ℕ × Order)) → (after_orders changing c orders).cluster.run ≡ after_acts c.cluster.run (acts_through c orders) }
-    ensures runs { (c : Changing) (orders : List (ℕ × Order)) → OrdersFit changing changing_fits c orders → AreLawfulActs c.cluster.run (acts_through c orders) × ActsFit c.cluster.run (acts_through c orders) }
+    ensures leads { (c : Changing) (jobs : List (ℕ × Job)) → (after_jobs changing c jobs).cluster.run ≡ after_acts c.cluster.run (acts_through c jobs) }
+    ensures runs { (c : Changing) (jobs : List (ℕ × Job)) → JobsFit changing changing_fits c jobs → AreLawfulActs c.cluster.run (acts_through c jobs) × ActsFit c.cluster.run (acts_through c jobs) }
 {}
 
 /// Changes that were computed one after the other, up to version 100, may be made, and their layouts have the greatest partition

@@ -21,11 +21,11 @@ use Rattle.flow_model.specs.declared.flow.Name.{Name}
 use Rattle.flow_model.specs.declared.flow.Content.{Content}
 use Rattle.flow_model.specs.declared.flow.Aim.TheVariants as aim
 use Rattle.flow_model.specs.declared.flow.Stage.{Stage}
-use Rattle.flow_model.specs.declared.flow.Stage.TheVariants.{Drawing, Uploading, Completing, Looking, Opening, Gathering, Listing}
+use Rattle.flow_model.specs.declared.flow.Stage.TheVariants.{Drawing, Uploading, Receiving, Needing, Aborting, Completing, Looking, Opening, Gathering, Listing}
 use Rattle.flow_model.specs.declared.flow.Flow.{Flow}
 use Rattle.flow_model.specs.declared.flow.FlowStep.TheVariants.{End}
 use Rattle.flow_model.specs.declared.flow.FlowEnd.{FlowEnd}
-use Rattle.flow_model.specs.declared.flow.FlowEnd.TheVariants.{Stored, Found, Nothing, Listed, Superseded}
+use Rattle.flow_model.specs.declared.flow.FlowEnd.TheVariants.{Stored, Found, Nothing, Listed, Superseded, Aborted}
 use Rattle.flow_model.specs.Blocks.{is_long}
 use Rattle.flow_model.specs.Rows.{meta_of}
 use Rattle.flow_model.specs.Flow.{asks_for, started}
@@ -33,11 +33,11 @@ use Rattle.flow_laws.specs.Pieces.{pieces}
 use Rattle.flow_laws.proofs.Cut.{cut}
 use Rattle.store_model.specs.Orders.{kind_of, name_of}
 use Rattle.store_model.specs.Run.{State, Outcome, Asked, plainly, are_buckets, drains}
-use Rattle.store_model.specs.Acts.{Act, moves, installs, asks, delivery, drain, forgets, takes, adds, cuts, ActsFit, acted, after_acts, end_of, all_messages}
+use Rattle.store_model.specs.Acts.{Act, moves, installs, asks, delivery, drain, forgets, takes, adds, cuts, feeds, keeps, gives_up, ActsFit, acted, after_acts, end_of, all_messages}
 use Rattle.store_model.specs.Gets.{stage_of}
-use Rattle.serve_model.specs.Stores.{Given, Carried, IsFirstOf, given_with, given}
+use Rattle.serve_model.specs.Stores.{carry, Given, Carried, IsFirstOf, given_with, given}
 use Rattle.serve_model.specs.Clusters.{Cluster, cluster, wait, works, round, number_in, given_by}
-use Rattle.serve_model.specs.Plain.{Has, never, deleted, object, Plain, has_at, row_of, at_time, counted, tells, with_object, answered, plain}
+use Rattle.serve_model.specs.Plain.{Has, never, deleted, object, Plain, has_at, at_time, counted, tells, with_object, answered, plain}
 use Rattle.get_laws.specs.OnTheWay.{LeavesEnd}
 use Rattle.get_laws.proofs.Firsts.{first_same, first_through}
 use Rattle.get_laws.proofs.Getting.{Seen, WaitsWith, EndsWith, IsAt, given_at}
@@ -49,8 +49,9 @@ use Rattle.plain_laws.proofs.Acting.{StillHolds, works_hold, drains_hold, end_ap
 use Rattle.plain_laws.proofs.Looks.{Going, going_on}
 use Rattle.plain_laws.proofs.Starting.{number}
 use Rattle.plain_laws.proofs.Told.{carried_told}
-use Rattle.plain_laws.proofs.Carrying.{now, asker_now, knows_now, none_ended_now, begins_so, asked_state, drained_state}
-use Rattle.plain_laws.proofs.Answering.{EndsAs, looking, get_ends, one_bucket, Turns, OneRow, row_turn, carried_as, reads_asked, reads_drained}
+use Rattle.plain_laws.proofs.Carrying.{now, asker_now, knows_now, none_ended_now, begins_so, asked_state, drained_state, gone_now, row_now}
+use Rattle.plain_laws.proofs.Followed.{carried_as}
+use Rattle.plain_laws.proofs.Answering.{EndsAs, looking, get_ends, one_bucket, Turns, OneRow, row_turn, reads_asked, reads_drained}
 use Rattle.plain_laws.proofs.Getting.{Course, turn}
 
 -- ---- what a get has given
@@ -73,6 +74,9 @@ waits_so (Gathering version meta aim.Head left body) seen is = absurd is
 waits_so (Gathering version meta (aim.Copy new headers) left body) seen is = absurd is
 waits_so (Drawing name wish) seen is = absurd is
 waits_so (Uploading name version content stored) seen is = absurd is
+waits_so (Receiving name version coming received) seen is = absurd is
+waits_so (Needing name version coming received) seen is = absurd is
+waits_so (Aborting version) seen is = absurd is
 waits_so (Completing version meta) seen is = absurd is
 waits_so (Listing bucket prefix rows) seen is = absurd is
 
@@ -82,6 +86,7 @@ ends_so Nothing seen told is = ap (given_at None (Some Nothing)) is
 ends_so (Superseded id) seen told is = absurd told
 ends_so (Stored version meta) seen told is = absurd is
 ends_so (Listed rows) seen told is = absurd is
+ends_so Aborted seen told is = absurd is
 
 at_stage : (stage : Stage) (end : Option FlowEnd) (seen : Seen) → IsAt (Some stage) end seen → given_at (Some stage) end seen ≡ so_far stage
 at_stage stage None seen at = waits_so stage seen at
@@ -129,6 +134,9 @@ quiet_leaves q forgets is = absurd is
 quiet_leaves q (takes r) is = absurd is
 quiet_leaves q (adds name) is = absurd is
 quiet_leaves q (cuts block) is = absurd is
+quiet_leaves q (feeds r bytes) is = absurd is
+quiet_leaves q (keeps r) is = absurd is
+quiet_leaves q (gives_up r) is = absurd is
 
 module _ (l : Layout) (Q : Plain) where
   act_quiet : (t : State) (a : Act) → IsQuiet a → Holding l Q t → StillHolds l Q t (acted t a).state
@@ -141,6 +149,9 @@ module _ (l : Layout) (Q : Plain) where
   act_quiet t (takes r) is h = absurd is
   act_quiet t (adds name) is h = absurd is
   act_quiet t (cuts block) is h = absurd is
+  act_quiet t (feeds r bytes) is h = absurd is
+  act_quiet t (keeps r) is h = absurd is
+  act_quiet t (gives_up r) is h = absurd is
 
   acts_quiet : (t : State) (acts : List Act) → AllByRecursion IsQuiet acts → Holding l Q t → (after_acts t acts).ends ≡ t.ends
   acts_quiet t [] quiet h = refl
@@ -178,7 +189,7 @@ module _ (c : Cluster) (P : Plain) (h : Holds c P) (time : ℕ) (bucket key : Li
 
   -- what the map's get gives
   abbrev whole : Option Given
-  whole = given (plain.carries P time get)
+  whole = given (plain.carries P time (carry get))
 
   -- it has given a first part of that
   abbrev GivesFirst : State → Type 0
@@ -199,14 +210,14 @@ module _ (c : Cluster) (P : Plain) (h : Holds c P) (time : ℕ) (bucket key : Li
   module _ (Waits : Flow → Phase AnyRow → Type 0) (end : FlowEnd) (its_turn : (flow : Flow) (phase : Phase AnyRow) → Waits flow phase → Turns c P h time get known Waits (End end) flow phase)
       (flow : Flow) (first : Waits flow (asks_for name)) (begins : started get q before.block ≡ (flow, asks_for name)) (answers : answered after get ≡ tells after end)
       (parts : (flow : Flow) (phase : Phase AnyRow) → Waits flow phase → IsFirstOf (so_far flow.stage) (given_with (Some end) None)) where
-    carried_so : plain.carries P time get ≡ tells after end
-    carried_so = carried_as c P h time get known ∙ answers
+    carried_so : plain.carries P time (carry get) ≡ tells after end
+    carried_so = carried_as c P h time (carry get) known ∙ answers
 
     whole_is : whole ≡ given_with (Some end) None
     whole_is = ap (λ (x : Carried Plain). given x) carried_so
 
     told : IsTold (Some end)
-    told = subst (λ (x : Carried Plain). IsTold x.end) carried_so (carried_told P time get known)
+    told = subst (λ (x : Carried Plain). IsTold x.end) carried_so (carried_told P time (carry get) known)
 
     ended_first : (t : State) → GivesOn None t q → t.ends ≡ before.ends ++ (q, end) ∷ [] → GivesFirst t
     ended_first t g ends =
@@ -235,8 +246,8 @@ module _ (c : Cluster) (P : Plain) (h : Holds c P) (time : ℕ) (bucket key : Li
     abbrev its_flow : Flow
     its_flow = looking q before.block name aim.Get
 
-    abbrev its_end : EndsAs its_flow (row_of name (has_at P name)) after (answered after get)
-    its_end = get_ends q before.block name after (has_at P name) in_row
+    abbrev its_end : EndsAs its_flow (row_now c P h time get name) after (answered after get)
+    its_end = get_ends q before.block name (gone_now c P h time get name) after (has_at P name) in_row
 
     row_gives : GivesOnTheWay
     row_gives =
@@ -326,11 +337,11 @@ module _ (c : Cluster) (P : Plain) (h : Holds c P) (time : ℕ) (bucket key : Li
 pub gives_as_the_map : (c : Cluster) (P : Plain) (time : ℕ) (bucket key : List ℕ) (g : Given) → Holds c P → cluster.gives c time (order.Get bucket key) g → plain.gives P time (order.Get bucket key) g
 gives_as_the_map c P time bucket key g h gives =
     let get : Order = order.Get bucket key in
-    elim (are_buckets P.buckets (bucket ∷ [])) as (λ b. are_buckets P.buckets (bucket ∷ []) ≡ b → IsFirstOf (Some g) (given (plain.carries P time get))) [
+    elim (are_buckets P.buckets (bucket ∷ [])) as (λ b. are_buckets P.buckets (bucket ∷ []) ≡ b → IsFirstOf (Some g) (given (plain.carries P time (carry get)))) [
       | true ↦ λ known.
           let t : State = after_acts c.run (gives.before ++ drain gives.count ∷ []) in
           let name : Name = record { bucket = bucket; key = key } in
-          first_through (Some g) (given_by t (number (now c P h time get))) (given (plain.carries P time get))
+          first_through (Some g) (given_by t (number (now c P h time get))) (given (plain.carries P time (carry get)))
           (subst (λ (o : Outcome). IsFirstOf (Some g) (given_by t (number_in o.words))) (begins_so c P h time get true known) gives.given)
           (in_acts c P h time bucket key known (gives_by c P h time bucket key known (has_at P name) refl) gives.before gives.later gives.count gives.parts gives.fit)
       | false ↦ λ none. absurd (subst (λ (o : Outcome). IsFirstOf (Some g) (given_by (after_acts c.run (gives.before ++ drain gives.count ∷ [])) (number_in o.words))) (begins_so c P h time get false none) gives.given)

@@ -37,6 +37,7 @@ pub struct FaultyLink {
     present: Option<u64>,
     /// The same once it is past.
     past: Option<u64>,
+    port: Option<u16>,
     ghost first: { IsTrue (not (comes && (is_some present || is_some past))) },
     ghost single: { IsTrue (not (is_some present && is_some past)) },
 }
@@ -55,6 +56,7 @@ impl FaultyLink {
             comes: true,
             present: None,
             past: None,
+            port: None,
         }
     }
 
@@ -74,6 +76,7 @@ impl FaultyLink {
         ensures past { option_to_list (option_map untold self.new.past)
             ≡ option_to_list (option_map untold self.old.past) ++ option_to_list (option_map untold self.old.present) }
         ensures faults { self.new.faults ≡ self.old.faults }
+        ensures port { self.new.port ≡ self.old.port }
     {
         if let Some(faults) = self.present {
             self.present = None;
@@ -94,7 +97,10 @@ impl Link for FaultyLink {
 
     ghost faults = { λ link. link.faults };
 
-    fn open(&mut self, _port: u16) -> Result<(), Failed> {
+    ghost open_at = { λ link. link.port };
+
+    fn open(&mut self, port: u16) -> Result<(), Failed> {
+        self.port = Some(port);
         Ok(())
     }
 

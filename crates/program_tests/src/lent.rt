@@ -12,7 +12,8 @@ use lab_outside::{Link, MemClock};
 use layout_text::Access;
 use s3_world::{Event, S3World};
 use serve_cluster::Cluster;
-use serve_loop::{Storage, serve_request};
+use serve_lent::serve_lent_request;
+use serve_loop::Storage;
 use serve_model::{Buckets, Served};
 use std::alloc::Global;
 use std::test::Fail;
@@ -125,7 +126,7 @@ fn goes_on<L: Link>(alloc: Global, cluster: &mut Cluster, link: &mut L) -> Resul
     let mut clock = MemClock::new([1_700_000_001_000].to_vec(alloc)?);
     let mut kept = Kept::new(alloc);
     let mut served = Served { kept: 0, time: 0 };
-    let end = serve_request(
+    let end = serve_lent_request(
         alloc,
         cluster,
         false,

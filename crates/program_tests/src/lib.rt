@@ -10,6 +10,8 @@ mod faulty;
 #[cfg(test)]
 mod lent;
 #[cfg(test)]
+mod limits;
+#[cfg(test)]
 mod links;
 #[cfg(test)]
 mod recorder;
@@ -29,5 +31,7 @@ mod signed_more_pairs;
 mod signed_pairs;
 #[cfg(test)]
 mod signed_refusals;
+#[cfg(test)]
+mod uploads;
 #[cfg(test)]
 mod workloads;

@@ -37,6 +37,8 @@ impl<L: Link> Link for Recorder<L> {
 
     ghost faults = { λ it. L.faults it.link };
 
+    ghost open_at = { λ it. L.open_at it.link };
+
     fn open(&mut self, port: u16) -> Result<(), Failed> {
         self.link.open(port)
     }

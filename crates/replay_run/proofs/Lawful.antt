@@ -15,7 +15,7 @@ use Rattle.flow_model.specs.declared.order.Order.{Order}
 use Rattle.flow_model.specs.declared.order.Order.TheVariants as order
 use Rattle.flow_model.specs.declared.flow.Flow.{Flow}
 use Rattle.flow_model.specs.declared.flow.FlowStep.{FlowStep}
-use Rattle.flow_model.specs.declared.flow.FlowStep.TheVariants.{More, Wait, End}
+use Rattle.flow_model.specs.declared.flow.FlowStep.TheVariants.{More, Need, Wait, End}
 use Rattle.flow_model.specs.Flow.{started}
 use Rattle.flow_model.specs.Next.{next}
 use Rattle.store_model.specs.declared.event.Event.{Event}
@@ -58,6 +58,7 @@ module _ (s : State) (h : IsFine s) where
 
   takes_fine : (q : ℕ) (asked : Asked) (draws : List Draw) (f : FlowStep) → IsFine (takes s q asked draws f).state
   takes_fine q asked draws (More flow phase) = record { staged = (doing_fine s (phases q phase) tt h).staged }
+  takes_fine q asked draws (Need flow wanted) = record { staged = h.staged }
   takes_fine q asked draws (Wait flow) = record { staged = h.staged }
   takes_fine q asked draws (End end) = record { staged = (doing_fine s (plainly (step.Close q)) tt h).staged }
 

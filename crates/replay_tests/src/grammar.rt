@@ -177,7 +177,7 @@ fn reads_the_source_of_a_copy(rt: HostRuntime) -> Result<(), Fail> {
 }
 
 /// Lines outside the grammar.
-const OUTSIDE: [&[u8]; 90] = [
+const OUTSIDE: [&[u8]; 97] = [
     b"block 15",
     b"block 1048577",
     b"skew 1",
@@ -268,6 +268,13 @@ const OUTSIDE: [&[u8]; 90] = [
     b"syncack 1 ",
     b"clean",
     b"clean 01",
+    b"put 1 pics caf\xc3\xa9 1 97",
+    b"get 1 pics \xff",
+    b"head 1 pics a\x80",
+    b"list 1 pics \xc3\xa9",
+    b"copy 1 pics a pics \xe2\x82\xac",
+    b"bucket pi\xc3\xa7s",
+    b"role 4 \xc3\xa4 1000",
 ];
 
 #[test]

@@ -11,7 +11,11 @@ mod limits;
 #[cfg(test)]
 mod line_texts;
 #[cfg(test)]
+mod messages;
+#[cfg(test)]
 mod request_texts;
+#[cfg(test)]
+mod restarts;
 #[cfg(test)]
 mod said_lines;
 #[cfg(test)]

@@ -88,6 +88,23 @@ fn limit_of_bytes_sent(rt: HostRuntime) -> Result<(), Fail> {
     Ok(())
 }
 
+/// The same puts of one key. A get has a key of 32 + 1 bytes (97), and rows of the object have three bytes less: the first put
+/// sends 199,473 bytes. Each later one is answered the row with the version in blocks (64 + 119), and sends 199,830. So 1,343
+/// puts send 268,371,333 bytes, and the 1,344th passes the limit with the first of its three blocks.
+#[test]
+fn limit_of_bytes_sent_under_one_key(rt: HostRuntime) -> Result<(), Fail> {
+    let end: &[u8] =
+        b"\n2689 put ok 1344\nsent 40291 get 1 1\nsent 40292 get 1 2\nsent 40293 get 1 3\nlimit sent 268435456\n";
+    let mut input = b"trio\nbucket pics\n".to_vec(rt.alloc())?;
+    for _ in 0..1400 {
+        input.extend_from_slice(b"put 1 pics a 65536 0\ndrain 1000\n")?;
+    }
+    let (status, text) = played(rt.alloc(), Account::Transcript, &input, &[], &[])?;
+    assert_eq!(rt; status, Status::Limit);
+    assert!(rt; text.ends_with(end));
+    Ok(())
+}
+
 /// Each put has 12 messages, and the list two windows of three questions and three answers.
 #[test]
 fn list_in_two_windows(rt: HostRuntime) -> Result<(), Fail> {

@@ -468,16 +468,24 @@ fn kth_write_fails(rt: HostRuntime) -> Result<(), Fail> {
     Ok(())
 }
 
+/// The first line that is none of a schedule is named: a word that is no event, and bytes above 127 in a key. In a comment they
+/// are nothing.
 #[test]
 fn line_out_of_grammar(rt: HostRuntime) -> Result<(), Fail> {
-    let (status, text) = played(
-        rt.alloc(),
-        Account::Transcript,
-        b"trio\n\nfoo\nbar\n",
-        &[],
-        &[],
-    )?;
-    assert_eq!(rt; status, Status::Refused);
-    assert_eq!(rt; text.as_slice(), b"bad line 3\n".as_slice());
+    let rows: [(&[u8], Status, &[u8]); 4] = [
+        (b"trio\n\nfoo\nbar\n", Status::Refused, b"bad line 3\n"),
+        (
+            b"trio\nbucket pics\nput 1 pics caf\xc3\xa9 1 97\nfoo\n",
+            Status::Refused,
+            b"bad line 3\n",
+        ),
+        (b"\n\nget 1 pics \xff", Status::Refused, b"bad line 3\n"),
+        (b"# caf\xc3\xa9 \xff\n", Status::Done, b"end 0 0 0\n"),
+    ];
+    for (input, wanted, line) in rows {
+        let (status, text) = played(rt.alloc(), Account::Transcript, input, &[], &[])?;
+        assert_eq!(rt; status, wanted);
+        assert_eq!(rt; text.as_slice(), line);
+    }
     Ok(())
 }

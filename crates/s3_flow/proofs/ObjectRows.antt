@@ -1,5 +1,5 @@
 -- Rows by what they say.
-use Rattle.std.proofs.Common.{◌≡◌, ℕ, ◌*◌, true, false, Option, Some, None, List, [], ◌∷◌, take, drop, length, refl, ap, subst, ◌∙◌}
+use Rattle.std.proofs.Common.{rules, ◌≡◌, ℕ, ◌*◌, true, false, Option, Some, None, List, [], ◌∷◌, take, drop, length, refl, ap, subst, ◌∙◌}
 use Rattle.std.specs.declared.cmp.Ord as ord
 use Rattle.std.specs.declared.cmp.PartialEq as partial_eq
 use Rattle.std.specs.declared.cmp.PartialOrd as partial_ord
@@ -23,7 +23,7 @@ use Rattle.crdt_rows.specs.ObjectRowLaws.{same_row}
 use Rattle.flow_model.specs.declared.flow.Name.{Name}
 use Rattle.flow_model.specs.declared.flow.Content.{Content}
 use Rattle.flow_model.specs.Blocks.{piece, piece_hash}
-use Rattle.flow_model.specs.Rows.{object_row, same_number, meta_of, inline, in_blocks, block_rows}
+use Rattle.flow_model.specs.Rows.{object_row, same_number, meta_of, inline, in_blocks, block_rows, rows_at}
 
 -- a row with the object's key and this one version is the object's
 pub the_object_row : (r : ObjectRow) (name : Name) (version : Version) (state : State) (hash : Hash32) (fits : is_sized state ≡ true) → object_key r ≡ (hash, name.key) →
@@ -59,3 +59,14 @@ pub the_block_rows : (id block : ℕ) (body : List ℕ) (i offset : ℕ) (piece 
     hash ≡ digest_of piece → size ≡ length piece → piece ≡ take block (drop offset body) → offset ≡ i * block → made ≡ block_rows id block body i
 the_block_rows id block body i offset piece hash size version made is_made is_version is_hash is_size is_piece at =
     rw (is_made, is_version, is_hash, is_size, is_piece, at) refl
+
+-- the same of a block that begins at an offset
+pub the_rows_at : (id offset : ℕ) (piece : List ℕ) (hash : Hash32) (size : ℕ) (version : AnyRow) (made : List (AnyRow × Option (List ℕ))) →
+    made ≡ (version, None) ∷ (rows.Ref (record { hash = hash; id = id; deleted = record { 0 = false } }), Some piece) ∷ [] →
+    version ≡ rows.Version (record { id = id; blocks = Present (map_single (record { part = 1; offset = offset }) (record { 0 = record { hash = hash; size = size } })) }) →
+    hash ≡ digest_of piece → size ≡ length piece → made ≡ rows_at id offset piece
+the_rows_at id offset piece hash size version made is_made is_version is_hash is_size = rw (is_made, is_version, is_hash, is_size) refl
+
+-- the first block's name
+pub first_piece : (block : ℕ) (body : List ℕ) (first : Hash32) → first ≡ digest_of (take block body) → first ≡ piece_hash block body 0
+first_piece block body first is = search rules

@@ -2,11 +2,20 @@
 ghost use Rattle.std.specs.Prelude.{◌≡◌, ◌*◌, true, false, MatchOption, length};
 ghost use Rattle.flow_model.specs.Blocks.{has_piece, is_long};
 
+use object_bytes::Pieces;
+
 // Objects of so many bytes and more are kept in blocks.
 const INLINE_LIMIT: usize = 3072;
 
 /// The bytes are kept in blocks.
 pub fn is_long(body: &[u8]) -> bool
+    ensures { result ≡ is_long body.now }
+{
+    body.len() >= INLINE_LIMIT
+}
+
+/// Bytes in pieces are kept in blocks.
+pub fn are_long(body: &Pieces) -> bool
     ensures { result ≡ is_long body.now }
 {
     body.len() >= INLINE_LIMIT

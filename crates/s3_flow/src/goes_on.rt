@@ -7,6 +7,7 @@ ghost use Rattle.flow_model.specs.Overdrawn.{IsOverdrawn};
 
 use crate::reads::{gathers, lists, looked, opened};
 use crate::request::Request;
+use crate::streams::needs;
 use crate::writes::{drawn, uploads, writes};
 use block_bytes::Block;
 use crdt_core::{Bytes, List, Memory};
@@ -73,6 +74,13 @@ pub fn after_kept(alloc: Global, request: Request, stage: Stage) -> Result<FlowS
             content,
             stored,
         } => uploads(alloc, request, name, version, content, stored),
+        Stage::Receiving {
+            name,
+            version,
+            coming,
+            received,
+        } => Ok(needs(request, name, version, coming, received)),
+        Stage::Aborting { version: _ } => Ok(FlowStep::End(FlowEnd::Aborted)),
         Stage::Completing { version, meta } => {
             Ok(FlowStep::End(FlowEnd::Stored { version, meta }))
         }

@@ -23,6 +23,7 @@ mod reads;
 mod request;
 mod rows;
 mod says;
+mod streams;
 mod writes;
 
 pub use objects::ObjectFlows;

@@ -6,10 +6,11 @@ use crate::begins::{draws, looks};
 use crate::goes_on::{after_block, after_kept, after_row, after_window};
 use crate::phases::asks_past;
 use crate::request::Request;
+use crate::streams::{feeds, gives_up, keeps};
 use block_bytes::Block;
 use crdt_core::{Bytes, List, Memory};
 use crdt_rows::AnyRow;
-use flow_model::{Aim, Content, Flow, FlowStep, Flows, Name, Order, Stage, Wish};
+use flow_model::{Aim, Coming, Content, Flow, FlowStep, Flows, Name, Order, Stage, Wish};
 use object_bytes::ObjectBytes;
 use std::alloc::Global;
 use wire_messages::{Phase, PhaseEnd};
@@ -45,6 +46,15 @@ impl Flows for ObjectFlows {
             } => {
                 let body = ObjectBytes::new(body);
                 let wish = Wish::Content(Content { body, headers });
+                draws(alloc, request, name_of(alloc, bucket, key)?, wish)
+            }
+            Order::Stream {
+                bucket,
+                key,
+                length,
+                headers,
+            } => {
+                let wish = Wish::Stream(Coming { length, headers });
                 draws(alloc, request, name_of(alloc, bucket, key)?, wish)
             }
             Order::Get { bucket, key } => {
@@ -96,5 +106,25 @@ impl Flows for ObjectFlows {
             PhaseEnd::Kept => after_kept(alloc, request, stage),
             PhaseEnd::Block(block) => after_block(alloc, request, stage, block),
         }
+    }
+
+    fn block(
+        &self,
+        alloc: Global,
+        flow: Flow,
+        bytes: Block,
+    ) -> Result<(Flow, Phase<AnyRow>), Memory> {
+        let Flow { id, block, stage } = flow;
+        feeds(alloc, Request { id, block }, stage, bytes)
+    }
+
+    fn finish(&self, alloc: Global, flow: Flow) -> Result<(Flow, Phase<AnyRow>), Memory> {
+        let Flow { id, block, stage } = flow;
+        keeps(alloc, Request { id, block }, stage)
+    }
+
+    fn abort(&self, alloc: Global, flow: Flow) -> Result<(Flow, Phase<AnyRow>), Memory> {
+        let Flow { id, block, stage } = flow;
+        gives_up(alloc, Request { id, block }, stage)
     }
 }

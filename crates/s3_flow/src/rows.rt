@@ -1,5 +1,5 @@
 //! The rows that requests store.
-ghost use Rattle.std.specs.Prelude.{◌≡◌, ◌*◌, ◌<◌, ◌∷◌, [], ℕ, true, IsTrue, IfOk, Some, None, length};
+ghost use Rattle.std.specs.Prelude.{◌≡◌, ◌*◌, ◌<◌, ◌^◌, ◌∷◌, [], ℕ, true, IsTrue, IfOk, Some, None, length};
 ghost use Rattle.crdt_core.specs.Outcomes.{OnlyWant};
 ghost use Rattle.crdt_core.specs.Map.{map_single};
 ghost use Rattle.crdt_core.specs.declared.deletable.Deletable.TheVariants.{Present};
@@ -10,7 +10,7 @@ ghost use Rattle.flow_model.specs.declared.flow.Content.{Content as ContentOf};
 ghost use Rattle.flow_model.specs.Blocks.{piece_hash};
 ghost use Rattle.flow_model.specs.Rows as model;
 
-use crate::blocks::is_long;
+use crate::blocks::{are_long, is_long};
 use blake2_hash::Hash32;
 use block_bytes::Block;
 use crdt_core::{Bool, Bytes, Deletable, List, Map, Max, Memory, Value};
@@ -19,7 +19,7 @@ use crdt_rows::{
 };
 use flow_model::{Content, Name};
 use md5::{Digest, Md5};
-use object_bytes::ObjectBytes;
+use object_bytes::{ObjectBytes, Pieces};
 use std::alloc::Global;
 
 // What is stored of bytes beside them.
@@ -50,6 +50,14 @@ pub fn uploading(alloc: Global, name: Name, version: Version) -> Result<AnyRow, 
     ensures want { OnlyWant result }
 {
     object_row(alloc, name, version, State::Uploading)
+}
+
+/// The upload of this version was given up.
+pub fn aborted(alloc: Global, name: Name, version: Version) -> Result<AnyRow, Memory>
+    ensures is { IfOk result (λ row. row ≡ model.aborted name version) }
+    ensures want { OnlyWant result }
+{
+    object_row(alloc, name, version, State::Aborted)
 }
 
 /// The object is deleted since this version.
@@ -117,6 +125,34 @@ pub fn complete(
     Ok((row, told))
 }
 
+/// The same of bytes that came piece by piece.
+pub fn complete_pieces(
+    alloc: Global,
+    name: Name,
+    version: Version,
+    block: u32,
+    received: Pieces,
+    headers: List<(Bytes, Bytes)>,
+) -> Result<(AnyRow, Meta), Memory>
+    ensures row { IfOk result (λ made. made.0 ≡ model.complete name version block (wish.Content (record { body = received; headers = headers }))) }
+    ensures meta { IfOk result (λ made. made.1 ≡ model.meta_of (record { body = received; headers = headers })) }
+    ensures want { OnlyWant result }
+{
+    let meta = Meta {
+        size: received.len() as u64,
+        etag: received.md5(),
+        headers,
+    };
+    let told = meta.copy()?;
+    if are_long(&received) {
+        let first = received.first_hash(block)?;
+        let row = in_blocks(alloc, name, version, meta, first)?;
+        return Ok((row, told));
+    }
+    let row = inline(alloc, name, version, meta, received.into_bytes()?)?;
+    Ok((row, told))
+}
+
 // The version's row with this block alone.
 fn version_row(alloc: Global, id: u64, part: Part, block: BlockRef) -> Result<AnyRow, Memory>
     ensures is { IfOk result (λ row. row ≡ any.Version (record { id = id; blocks = Present (map_single part (record { 0 = block })) })) }
@@ -141,6 +177,26 @@ fn both_rows(
     let mut rows = List::new(alloc);
     rows.push((version, None))?;
     rows.push((reference, Some(block)))?;
+    Ok(rows)
+}
+
+/// What is stored of a version's block, which begins at this offset.
+pub fn rows_at(
+    alloc: Global,
+    id: u64,
+    offset: u64,
+    piece: Block,
+) -> Result<List<(AnyRow, Option<Block>)>, Memory>
+    requires { length piece < 2 ^ 32 }
+    ensures are { IfOk result (λ rows. rows ≡ model.rows_at id offset piece) }
+    ensures want { OnlyWant result }
+{
+    let size = piece.len() as u32;
+    let hash = *piece.hash();
+    let version = version_row(alloc, id, Part { part: 1, offset }, BlockRef { hash, size })?;
+    let deleted = Bool(false);
+    let reference = AnyRow::Ref(RefRow { hash, id, deleted });
+    let rows = both_rows(alloc, version, reference, piece)?;
     Ok(rows)
 }
 

@@ -1,5 +1,5 @@
 //! What writes do when their phases have ended.
-ghost use Rattle.std.specs.Prelude.{◌≡◌, ◌≤◌, ◌<◌, ◌^◌, IfOk, IfErr};
+ghost use Rattle.std.specs.Prelude.{◌≡◌, ◌≤◌, ◌<◌, ◌^◌, [], IfOk, IfErr};
 ghost use Rattle.crdt_core.specs.Outcomes.{OnlyWant};
 ghost use Rattle.flow_model.specs.declared.flow.Wish.TheVariants as wish;
 ghost use Rattle.crdt_core.specs.declared.memory.Memory.TheVariants.{Full};
@@ -14,7 +14,8 @@ use crate::rows::{block_rows, complete, marker, uploading};
 use crate::says::greatest_ts;
 use crdt_core::{Memory, Value};
 use crdt_rows::{AnyRow, Version};
-use flow_model::{Content, FlowStep, Name, Stage, Wish};
+use flow_model::{Coming, Content, FlowStep, Name, Stage, Wish};
+use object_bytes::Pieces;
 use std::alloc::Global;
 use wire_messages::Phase;
 
@@ -97,6 +98,28 @@ fn announces(
     Ok(request.more(stage, phase))
 }
 
+// A streamed upload is announced.
+fn announces_stream(
+    alloc: Global,
+    request: Request,
+    name: Name,
+    version: Version,
+    coming: Coming,
+) -> Result<FlowStep, Memory>
+    ensures is { IfOk result (λ step. step ≡ more request.id request.block (stage.Receiving name version coming []) (stores (row.uploading name version))) }
+    ensures want { OnlyWant result }
+{
+    let announced = copy_of(&name)?;
+    let phase = stores(alloc, uploading(alloc, announced, version)?)?;
+    let stage = Stage::Receiving {
+        name,
+        version,
+        coming,
+        received: Pieces::new(alloc),
+    };
+    Ok(request.more(stage, phase))
+}
+
 /// A write has drawn its version: long bytes are uploaded block by block, all else is stored at once.
 pub fn writes(
     alloc: Global,
@@ -110,6 +133,7 @@ pub fn writes(
 {
     match wish {
         Wish::Marker => deletes(alloc, request, name, version),
+        Wish::Stream(coming) => announces_stream(alloc, request, name, version, coming),
         Wish::Content(content) => {
             if is_long(content.body.as_slice()) {
                 return announces(alloc, request, name, version, content);

@@ -24,5 +24,5 @@ pub use crate::connection::{closes, expects};
 pub use crate::header::announced;
 pub use crate::range::span;
 pub use crate::refusal::{fault, head_fault};
-pub use crate::source::{copy_source, is_digest};
+pub use crate::source::{copy_source, is_digest, is_md5};
 pub use crate::target::{has_path, path};

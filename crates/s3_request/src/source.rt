@@ -1,5 +1,6 @@
 //! What is judged once a request's bucket is known: where a copy comes from, and the digest of a body.
-ghost use Rattle.std.specs.Prelude.{◌≡◌, IfOk, option_map};
+ghost use Rattle.std.specs.Prelude.{◌≡◌, ℕ, List, IfOk, option_map};
+ghost use Rattle.md5.specs.Md5.{md5};
 ghost use Rattle.crdt_core.specs.Outcomes.{OnlyWant};
 ghost use Rattle.s3_model.specs.Sources.{past_slash as past, source_in as source_within, source_of, is_digest_of};
 
@@ -46,7 +47,14 @@ pub fn is_digest(value: &Bytes, body: &[u8]) -> Result<bool, Memory>
     ensures same { IfOk result (λ same. same ≡ is_digest_of value.now body.now) }
     ensures want { OnlyWant result }
 {
-    let digest = Md5::digest(body);
-    let text = STANDARD.encode(value.allocator(), &digest)?;
+    is_md5(value, &Md5::digest(body))
+}
+
+/// The same of a body of which the MD5 digest is known.
+pub fn is_md5(value: &Bytes, digest: &[u8; 16]) -> Result<bool, Memory>
+    ensures same { IfOk result (λ same. (body : List ℕ) → digest.now ≡ md5 body → same ≡ is_digest_of value.now body) }
+    ensures want { OnlyWant result }
+{
+    let text = STANDARD.encode(value.allocator(), digest)?;
     Ok(value.as_slice() == text.as_bytes())
 }

@@ -18,7 +18,7 @@ use Rattle.s3_world.specs.declared.asked.Asked.{Asked}
 use Rattle.s3_world.specs.declared.driver.Driver.{Driver}
 use Rattle.s3_world.specs.Driven.{Known, known, kept, place_in, IsSized, IsHanding, IsDriven, HasRun, Becomes}
 use Rattle.s3_world.specs.Reads.{Handed, of, nothing_handed, IsLeft, IsOver, AreRead, with_first}
-use Rattle.s3_world.proofs.Places.{get_kept, get_none, set_same, all_set, all_get}
+use Rattle.s3_world.proofs.Places.{waiting_at, get_none, set_same, all_set, all_get}
 use Rattle.s3_world.proofs.Overs.{ended_is_over, without_none}
 use Rattle.s3_world.proofs.Handing.{left_with_end, some_left_with_end, end_taken}
 
@@ -92,7 +92,7 @@ module _ {F : Type 0} (old : Driver F) (q : ℕ) where
     ended s d = ap (λ es. end_of es q) (sym d.ends) ∙ ((placed q old.ends (Some i) at).1 ∙ ap (option_map (λ (e : ℕ × FlowEnd). e.1)) there)
 
     abbrev model : {given : Handed} (s : State) → IsHanding given old s → (m : Waiting) × (slice_get s.asked k ≡ Some m) × (kept m ≡ known a)
-    model s d = get_kept s.asked k (known a) (sym (ap (λ rs. slice_get rs k) d.requests) ∙ (slice_get-map known old.requests k ∙ ap (option_map known) code_at))
+    model s d = waiting_at old s d k a code_at
 
     same_flow : {given : Handed} (s : State) (d : IsHanding given old s) → a.flow ≡ (model s d).0.flow
     same_flow s d = ap (λ (x : Known). x.flow) (sym (model s d).2)

@@ -1,7 +1,6 @@
 -- What a request does whose phase ended, case by case.
-use Rattle.std.proofs.Common.{◌≡◌, ℕ, ◌+◌, ◌-◌, ◌^◌, ◌<◌, true, false, Option, Some, None, Result, Ok, Err, IfOk, List, [], ◌∷◌, ◌++◌, length, refl, sym, ap, ◌∙◌, subst, arith, ◌⊎◌}
-use Rattle.std.specs.Prelude.{slice_get, slice_set, map, option_map}
-use Rattle.std.proofs.lemmas.Option.{slice_get-map}
+use Rattle.std.proofs.Common.{◌≡◌, ℕ, ◌+◌, ◌-◌, ◌^◌, ◌<◌, true, false, Option, Some, None, Result, Ok, Err, IfOk, List, [], ◌∷◌, ◌++◌, length, refl, sym, ap, ◌∙◌, subst, arith, ◌⊎◌, inl, inr}
+use Rattle.std.specs.Prelude.{slice_get, slice_set, map}
 use Rattle.std.specs.List.{AllByRecursion}
 use Rattle.std.proofs.lemmas.List.{map-set, length-map}
 use Rattle.crdt_core.specs.declared.memory.Memory.{Memory}
@@ -20,30 +19,30 @@ use Rattle.flow_model.specs.declared.flow.Name.{Name}
 use Rattle.flow_model.specs.declared.flow.Wish.{Wish}
 use Rattle.flow_model.specs.declared.flow.Wish.TheVariants as wish
 use Rattle.flow_model.specs.declared.flow.Stage.{Stage}
-use Rattle.flow_model.specs.declared.flow.Stage.TheVariants.{Drawing, Uploading, Completing, Looking, Opening, Gathering, Listing}
+use Rattle.flow_model.specs.declared.flow.Stage.TheVariants.{Drawing, Uploading, Receiving, Needing, Aborting, Completing, Looking, Opening, Gathering, Listing}
 use Rattle.flow_model.specs.declared.flow.Flow.{Flow}
 use Rattle.flow_model.specs.declared.flow.FlowStep.{FlowStep}
-use Rattle.flow_model.specs.declared.flow.FlowStep.TheVariants.{More, Wait, End}
+use Rattle.flow_model.specs.declared.flow.FlowStep.TheVariants.{More, Need, Wait, End}
 use Rattle.flow_model.specs.declared.flow.FlowEnd.{FlowEnd}
 use Rattle.flow_model.specs.Blocks.{is_long}
 use Rattle.flow_model.specs.Rows as row
 use Rattle.flow_model.specs.Next as flow
 use Rattle.flow_model.specs.Overdrawn.{IsOverdrawn}
 use Rattle.store_model.specs.declared.event.Told.{Told}
-use Rattle.store_model.specs.Answers.{record_of, line_of}
-use Rattle.store_model.specs.Run.{State, Asked as Waiting, Draw, Outcome, silent, plainly, phases, takes, goes, finishes, follows, follow, draws_of, versions_drawn}
+use Rattle.store_model.specs.Answers.{record_of, lines_of_end}
+use Rattle.store_model.specs.Run.{State, Asked as Waiting, Draw, Outcome, silent, plainly, phases, set_flow, takes, goes, finishes, follows, follow, draws_of, versions_drawn}
 use Rattle.store_model.specs.Turns.{FitsOutcome}
 use Rattle.world_core.specs.declared.report.Report.{Report}
 use Rattle.world_core.specs.Stands.{StandsFor, Steps, Overflows as WorldOverflows}
 use Rattle.s3_world.specs.declared.asked.Asked.{Asked}
 use Rattle.s3_world.specs.declared.driver.Driver.{Driver}
-use Rattle.s3_world.specs.Driven.{Known, known, kept, IsSized, IsHanding, IsDriven, HasRun, Does, Plays, Overflows, Finishes}
+use Rattle.s3_world.specs.Driven.{Known, known, kept, IsSized, IsHanding, IsDriven, HasRun, Does, Plays, Overflows, Finishes, Begins}
 use Rattle.s3_world.specs.Reads.{Handed, heard, after_phase, AreRead}
 use Rattle.s3_world.proofs.Counts.{same_count}
 use Rattle.s3_world.proofs.Getting.{flow_then, ends_then}
 use Rattle.s3_world.proofs.Reading.{reads_next, whatever}
 use Rattle.s3_world.proofs.Phases.{IsGood, StepIsGood, next_is_good}
-use Rattle.s3_world.proofs.Places.{numbered_place, get_kept, get_none, get_set, set_twice, set_same, all_set, all_get}
+use Rattle.s3_world.proofs.Places.{numbered_place, waiting_at, get_none, get_set, set_twice, set_same, all_set, all_get}
 
 -- whatever was handed out
 pub as_driven : {F : Type 0} (given : Handed) (driver : Driver F) (s : State) → IsHanding given driver s → IsDriven driver s
@@ -58,6 +57,29 @@ silent_plays old told says given s d = record {
   fits = tt;
 }
 
+-- ---- what begins no phase
+
+-- a request that does this waits so, for its client or on
+abbrev pub Rests : Flow → FlowStep → Type 0
+Rests g does = ((wanted : ℕ) × (does ≡ Need g wanted)) ⊎ (does ≡ Wait g)
+
+module _ (g : Flow) (does : FlowStep) where
+  rests_flow : Rests g does → flow_then does ≡ Some g
+  rests_flow (inl needs) = ap flow_then needs.1
+  rests_flow (inr waits) = ap flow_then waits
+
+  rests_ends : (ends : List (ℕ × FlowEnd)) (q : ℕ) → Rests g does → ends_then ends q does ≡ ends
+  rests_ends ends q (inl needs) = ap (ends_then ends q) needs.1
+  rests_ends ends q (inr waits) = ap (ends_then ends q) waits
+
+  rests_takes : (s : State) (q : ℕ) (m : Waiting) (draws : List Draw) → Rests g does → takes s q m draws does ≡ silent (record s { asked = set_flow s q m (Some g) })
+  rests_takes s q m draws (inl needs) = ap (takes s q m draws) needs.1
+  rests_takes s q m draws (inr waits) = ap (takes s q m draws) waits
+
+  rests_block : (block : ℕ) → Rests g does → StepIsGood block does → g.block ≡ block
+  rests_block block (inl needs) good = let same : StepIsGood block (Need g needs.0) = subst (StepIsGood block) needs.1 good in same
+  rests_block block (inr waits) good = let same : StepIsGood block (Wait g) = subst (StepIsGood block) waits good in same
+
 -- nobody asked under this number
 pub follow_nobody : {F : Type 0} (old : Driver F) (q : ℕ) (end : PhaseEnd AnyRow) (told : Told) → (q ≡ 0) ⊎ (length old.requests < q) → told ≡ record { refused = None; words = Empty; lines = [] } →
     Plays old old told (λ s. follow s q (numbered s.asked q) end)
@@ -70,7 +92,7 @@ follow_nobody old q end told none says given s d =
 module _ {F : Type 0} (old : Driver F) (i q : ℕ) (place : i + 1 ≡ q) (a : Asked) (at : slice_get old.requests i ≡ Some a) (end : PhaseEnd AnyRow) where
   -- the model's request
   abbrev waiting : {given : Handed} (s : State) → IsHanding given old s → (m : Waiting) × (slice_get s.asked i ≡ Some m) × (kept m ≡ known a)
-  waiting s d = get_kept s.asked i (known a) (sym (ap (λ rs. slice_get rs i) d.requests) ∙ (slice_get-map known old.requests i ∙ ap (option_map known) at))
+  waiting s d = waiting_at old s d i a at
 
   followed : {given : Handed} (s : State) (d : IsHanding given old s) → follow s q (numbered s.asked q) end ≡ follows s q (waiting s d).0 end a.flow
   followed s d =
@@ -197,7 +219,7 @@ module _ {F : Type 0} (old : Driver F) (i q : ℕ) (place : i + 1 ≡ q) (a : As
                 fits = ((then.stands.fits, then.spelled), tt);
               })
 
-          pub more_waits : (late new : Driver F) (x : Asked) (report : Report AnyRow) (told : Told) → x ≡ now_kept None → late.requests ≡ slice_set old.requests i x →
+          more_waits : (late new : Driver F) (x : Asked) (report : Report AnyRow) (told : Told) → x ≡ now_kept None → late.requests ≡ slice_set old.requests i x →
               ((b : Asked) → slice_get late.requests i ≡ Some b → new ≡ record late { requests = slice_set late.requests i (record b { flow = Some g }) }) →
               Steps any_join words old.world late.world report (step.Phase q phase) → late.ends ≡ old.ends → late.history ≡ old.history → told ≡ record { refused = None; words = Empty; lines = report.lines } →
               Plays old new told (λ s. follow s q (numbered s.asked q) end)
@@ -205,31 +227,36 @@ module _ {F : Type 0} (old : Driver F) (i q : ℕ) (place : i + 1 ≡ q) (a : As
               subst (λ (n : Driver F). Plays old n told (λ s. follow s q (numbered s.asked q) end)) (sym (waited late new x g is_heard requests waits))
               (more_plays (record late { requests = slice_set old.requests i (now_kept (Some g)) }) report told steps ends history refl says)
 
+          pub more_begins : (new : Driver F) (x : Asked) → x ≡ now_kept None → (r : Result Told Memory) → IfOk r (λ told. Begins (record old { requests = slice_set old.requests i x }) new told i q g phase) →
+              IfOk r (λ told. Plays old new told (λ s. follow s q (numbered s.asked q) end))
+          more_begins new x is_heard (Err e) h = tt
+          more_begins new x is_heard (Ok told) h = more_waits (record old { world = new.world; requests = slice_set old.requests i x }) new x h.report told is_heard refl h.rest h.begins refl refl h.tells
+
           pub more_overflows : WorldOverflows any_join words old.world (step.Phase q phase) → Overflows old (λ s. follow s q (numbered s.asked q) end)
           more_overflows full s d fits =
               let m = waiting s d in
               let here : FitsOutcome s (goes (seen s) q m.0 (drawn s d) g phase) = subst (λ (o : Outcome). FitsOutcome s o) (done s d ∙ ap (takes (seen s) q m.0 (drawn s d)) more) fits in
               (full s.world d.world).lacks here.0.0
 
-        module _ (g : Flow) (wait : does ≡ Wait g) where
-          pub wait_plays : (told : Told) → told ≡ record { refused = None; words = Empty; lines = [] } →
+        module _ (g : Flow) (rests : Rests g does) where
+          wait_plays : (told : Told) → told ≡ record { refused = None; words = Empty; lines = [] } →
               Plays old (record old { requests = slice_set old.requests i (now_kept (Some g)) }) told (λ s. follow s q (numbered s.asked q) end)
           wait_plays told says given s d =
               let m = waiting s d in
               let new : Driver F = record old { requests = slice_set old.requests i (now_kept (Some g)) } in
               let t : State = record (seen s) { asked = slice_set s.asked (q - 1) (record m.0 { flow = Some g }) } in
               let P : Outcome → Type 0 = λ o. Does given new told s o in
-              let same : g.block ≡ f.block = (let h : StepIsGood f.block (Wait g) = subst (StepIsGood f.block) wait good in h) in
-              let has_block : 0 < g.block = subst (λ b. 0 < b) (sym same) (sized (s, as_driven given old s d)) in
-              subst P (sym (done s d ∙ ap (takes (seen s) q m.0 (drawn s d)) wait)) (record {
+              let has_block : 0 < g.block = subst (λ b. 0 < b) (sym (rests_block g does f.block rests good)) (sized (s, as_driven given old s d)) in
+              let then : flow_then does ≡ Some g = rests_flow g does rests in
+              subst P (sym (done s d ∙ rests_takes g does (seen s) q m.0 (drawn s d) rests)) (record {
                 stands = record {
                   world = d.world;
                   requests = known_now s d (Some g);
                   ends = d.ends;
                   history = d.history;
                   flows = sized_now s d (Some g) has_block;
-                  reads = subst (λ fl. AreRead given (slice_set old.requests i (now_kept fl)) t) (ap flow_then wait)
-                      (reads_now s t d (ap (λ fl. slice_set s.asked (q - 1) (record m.0 { flow = fl })) (sym (ap flow_then wait))) (sym (ap (ends_then s.ends q) wait)) refl refl);
+                  reads = subst (λ fl. AreRead given (slice_set old.requests i (now_kept fl)) t) then
+                      (reads_now s t d (ap (λ fl. slice_set s.asked (q - 1) (record m.0 { flow = fl })) (sym then)) (sym (rests_ends g does s.ends q rests)) refl refl);
                 };
                 tells = record { refused = ap (λ (t : Told). t.refused) says; words = ap (λ (t : Told). t.words) says; lines = ap (λ (t : Told). t.lines) says };
                 fits = tt;
@@ -269,7 +296,7 @@ module _ {F : Type 0} (old : Driver F) (i q : ℕ) (place : i + 1 ≡ q) (a : As
                 tells = record {
                   refused = ap (λ (t : Told). t.refused) fin.tells;
                   words = ap (λ (t : Told). t.words) fin.tells;
-                  lines = ap (λ (t : Told). t.lines) fin.tells ∙ ap (λ k. line_of q k last ∷ []) same_kind;
+                  lines = ap (λ (t : Told). t.lines) fin.tells ∙ ap (λ k. lines_of_end q k last) same_kind;
                 };
                 fits = ((then.stands.fits, then.spelled), tt);
               })
@@ -288,6 +315,7 @@ module _ {F : Type 0} (old : Driver F) (i q : ℕ) (place : i + 1 ≡ q) (a : As
       writes_draw : (s : State) (m : Waiting) (draws : List Draw) (id block : ℕ) (name : Name) (version : Version) (w : Wish) →
           (takes s q m draws (flow.writes id block name version w)).new_versions ≡ versions_drawn draws
       writes_draw s m draws id block name version wish.Marker = refl
+      writes_draw s m draws id block name version (wish.Stream coming) = refl
       writes_draw s m draws id block name version (wish.Content c) = elim (is_long c.body) as (λ b. (takes s q m draws (elim b [
         | true ↦ flow.more id block (Uploading name version c 0) (flow.stores (row.uploading name version))
         | false ↦ flow.completes id block name version (wish.Content c)
@@ -304,6 +332,9 @@ module _ {F : Type 0} (old : Driver F) (i q : ℕ) (place : i + 1 ≡ q) (a : As
       over s m id block (Drawing name w) Kept big fits = big
       over s m id block (Drawing name w) (Block bytes) big fits = big
       over s m id block (Uploading name version c n) e big fits = big
+      over s m id block (Receiving name version coming received) e big fits = big
+      over s m id block (Needing name version coming received) e big fits = big
+      over s m id block (Aborting version) e big fits = big
       over s m id block (Completing version meta) e big fits = big
       over s m id block (Looking name aim) e big fits = big
       over s m id block (Opening version meta aim) e big fits = big

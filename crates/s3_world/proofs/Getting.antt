@@ -14,10 +14,10 @@ use Rattle.history_model.specs.declared.record.Kind.{Kind}
 use Rattle.history_model.specs.declared.record.Kind.TheVariants.{Put, Get, Head, Delete, Copy, List as Keys}
 use Rattle.flow_model.specs.declared.flow.Aim.TheVariants as aim
 use Rattle.flow_model.specs.declared.flow.Stage.{Stage}
-use Rattle.flow_model.specs.declared.flow.Stage.TheVariants.{Drawing, Uploading, Completing, Looking, Opening, Gathering, Listing}
+use Rattle.flow_model.specs.declared.flow.Stage.TheVariants.{Drawing, Uploading, Receiving, Needing, Aborting, Completing, Looking, Opening, Gathering, Listing}
 use Rattle.flow_model.specs.declared.flow.Flow.{Flow}
 use Rattle.flow_model.specs.declared.flow.FlowStep.{FlowStep}
-use Rattle.flow_model.specs.declared.flow.FlowStep.TheVariants.{More, Wait, End}
+use Rattle.flow_model.specs.declared.flow.FlowStep.TheVariants.{More, Need, Wait, End}
 use Rattle.flow_model.specs.declared.flow.FlowEnd.{FlowEnd}
 use Rattle.flow_model.specs.Says.{Said, none, marked, inline, in_blocks, said_of, Named, unnamed, whole, deleted, named_by}
 use Rattle.flow_model.specs.Next as flow
@@ -30,12 +30,14 @@ use Rattle.s3_world.specs.Reads.{IsLeft, with_block, found_after, blocks_after, 
 -- the bytes of an object that came, once it does this
 abbrev pub gathered_then : FlowStep → List ℕ
 gathered_then (More f phase) = gathered_at (Some f.stage)
+gathered_then (Need f wanted) = gathered_at (Some f.stage)
 gathered_then (Wait f) = gathered_at (Some f.stage)
 gathered_then (End end) = body_of (Some end)
 
 -- it waits as gets do, once it does this
 abbrev pub IsWaitingThen : Option (List (List ℕ)) → FlowStep → Type 0
 IsWaitingThen blocks (More f phase) = IsWaitingGet blocks f.stage
+IsWaitingThen blocks (Need f wanted) = IsWaitingGet blocks f.stage
 IsWaitingThen blocks (Wait f) = IsWaitingGet blocks f.stage
 IsWaitingThen blocks (End end) = ⊤
 
@@ -100,21 +102,26 @@ get_right id block blocks given (Gathering version meta aim.Head left body) end 
 get_right id block blocks given (Gathering version meta (aim.Copy other headers) left body) end now waits is_left = absurd waits
 get_right id block blocks given (Drawing name wish) end now waits is_left = absurd waits
 get_right id block blocks given (Uploading name version content stored) end now waits is_left = absurd waits
+get_right id block blocks given (Receiving name version coming received) end now waits is_left = absurd waits
+get_right id block blocks given (Needing name version coming received) end now waits is_left = absurd waits
+get_right id block blocks given (Aborting version) end now waits is_left = absurd waits
 get_right id block blocks given (Completing version meta) end now waits is_left = absurd waits
 get_right id block blocks given (Listing bucket prefix rows) end now waits is_left = absurd waits
 
 -- what it waits for once it does this
 abbrev pub flow_then : FlowStep → Option Flow
 flow_then (More f phase) = Some f
+flow_then (Need f wanted) = Some f
 flow_then (Wait f) = Some f
 flow_then (End end) = None
 
 -- of a request that hands out nothing
-others_left : (bytes more given : List ℕ) (blocks : Option (List (List ℕ))) → blocks ≡ None → IsLeft blocks given bytes → IsLeft blocks given more
+pub others_left : (bytes more given : List ℕ) (blocks : Option (List (List ℕ))) → blocks ≡ None → IsLeft blocks given bytes → IsLeft blocks given more
 others_left bytes more given blocks e is_left = subst (λ b. IsLeft b given more) (sym e) (none_left blocks given bytes e is_left)
 
 waiting_then : (blocks : Option (List (List ℕ))) (does : FlowStep) → IsWaitingThen blocks does → IsReadingAs Get blocks (flow_then does)
 waiting_then blocks (More f phase) h = h
+waiting_then blocks (Need f wanted) h = h
 waiting_then blocks (Wait f) h = h
 waiting_then blocks (End end) h = tt
 
@@ -142,22 +149,26 @@ gathered_of asked end = elim (stage_of asked) as (λ o. List ℕ) [
 -- how it ended once it does this, if it hadn't before
 abbrev pub end_then : FlowStep → Option FlowEnd
 end_then (More f phase) = None
+end_then (Need f wanted) = None
 end_then (Wait f) = None
 end_then (End end) = Some end
 
 -- its ends once it does this
 abbrev pub ends_then : List (ℕ × FlowEnd) → ℕ → FlowStep → List (ℕ × FlowEnd)
 ends_then ends q (More f phase) = ends
+ends_then ends q (Need f wanted) = ends
 ends_then ends q (Wait f) = ends
 ends_then ends q (End end) = ends ++ (q, end) ∷ []
 
 pub there_then : (does : FlowStep) (m : Waiting) → is_there (stage_of (Some (record m { flow = flow_then does }))) (end_then does) ≡ true
 there_then (More f phase) m = refl
+there_then (Need f wanted) m = refl
 there_then (Wait f) m = refl
 there_then (End end) m = refl
 
 pub gathered_is : (does : FlowStep) (m : Waiting) → gathered_of (Some (record m { flow = flow_then does })) (end_then does) ≡ gathered_then does
 gathered_is (More f phase) m = refl
+gathered_is (Need f wanted) m = refl
 gathered_is (Wait f) m = refl
 gathered_is (End end) m = refl
 

@@ -8,7 +8,7 @@ use Rattle.history_model.specs.declared.record.Kind.{Kind}
 use Rattle.history_model.specs.declared.record.Kind.TheVariants.{Put, Get, Head, Delete, Copy, List as Keys}
 use Rattle.flow_model.specs.declared.flow.Aim.TheVariants as aim
 use Rattle.flow_model.specs.declared.flow.Stage.{Stage}
-use Rattle.flow_model.specs.declared.flow.Stage.TheVariants.{Drawing, Uploading, Completing, Looking, Opening, Gathering, Listing}
+use Rattle.flow_model.specs.declared.flow.Stage.TheVariants.{Drawing, Uploading, Receiving, Needing, Aborting, Completing, Looking, Opening, Gathering, Listing}
 use Rattle.flow_model.specs.declared.flow.Flow.{Flow}
 use Rattle.flow_model.specs.declared.flow.FlowEnd.{FlowEnd}
 use Rattle.cluster_machine.specs.World.{numbered}
@@ -35,6 +35,9 @@ waits_still (Gathering version meta aim.Head left body) blocks rest h = h
 waits_still (Gathering version meta (aim.Copy other headers) left body) blocks rest h = h
 waits_still (Drawing name wish) blocks rest h = h
 waits_still (Uploading name version content stored) blocks rest h = h
+waits_still (Receiving name version coming received) blocks rest h = h
+waits_still (Needing name version coming received) blocks rest h = h
+waits_still (Aborting version) blocks rest h = h
 waits_still (Completing version meta) blocks rest h = h
 waits_still (Listing bucket prefix rows) blocks rest h = h
 
@@ -98,6 +101,9 @@ nothing_in blocks (Gathering version meta aim.Head left body) h e = absurd h
 nothing_in blocks (Gathering version meta (aim.Copy other headers) left body) h e = absurd h
 nothing_in blocks (Drawing name wish) h e = refl
 nothing_in blocks (Uploading name version content stored) h e = refl
+nothing_in blocks (Receiving name version coming received) h e = refl
+nothing_in blocks (Needing name version coming received) h e = refl
+nothing_in blocks (Aborting version) h e = refl
 nothing_in blocks (Completing version meta) h e = refl
 nothing_in blocks (Listing bucket prefix rows) h e = refl
 
@@ -119,9 +125,6 @@ all_handed requests s i q place a at m model_at same_kind same_flow none bytes r
     let came : gathered s q ≡ gathered_of (Some now) None = ap (λ o. gathered_of o (end_of s.ends q)) model ∙ ap (gathered_of (Some now)) ended in
     let is_left : IsLeft a.blocks bytes (gathered s q) = subst (λ o. IsLeft (blocks_in o) bytes (gathered s q)) code reads.handed in
     none_waits a.blocks bytes (gathered s q) none (λ e. came ∙ nothing_yet m a.kind a.blocks a.flow (all_get IsReading requests i a reads.reading at) (sym (ap is_get model) ∙ get) e) is_left
-
-pub nobody_all : (requests : List Asked) (s : State) (q : ℕ) → numbered s.asked q ≡ None → (bytes : List ℕ) → HasAll s q bytes
-nobody_all requests s q nobody bytes get ended = let no = sym (ap is_get nobody) ∙ get in absurd (cc)
 
 -- ---- an end is taken
 

@@ -7,9 +7,10 @@ use Rattle.cluster_machine.specs.Node.{Ended}
 use Rattle.cluster_machine.specs.World.{numbered, clock, undelivered}
 use Rattle.flow_model.specs.declared.flow.Flow.{Flow}
 use Rattle.flow_model.specs.declared.flow.FlowStep.{FlowStep}
-use Rattle.flow_model.specs.declared.flow.FlowStep.TheVariants.{More, Wait, End}
+use Rattle.flow_model.specs.declared.flow.FlowStep.TheVariants.{More, Need, Wait, End}
 use Rattle.flow_model.specs.Next as flow
-use Rattle.store_model.specs.Run.{Asked, Draw, State, Outcome, silent, plainly, effect, doing, takes, draws_of, follows, follow, goes_on, delivers, then_drains, drains}
+use Rattle.flow_model.specs.Streams as stream
+use Rattle.store_model.specs.Run.{Asked, Draw, State, Outcome, silent, plainly, effect, doing, takes, draws_of, follows, follow, goes_on, delivers, then_drains, drains, hears, heard_in, heard}
 
 -- the buckets and the size of blocks are as they were
 abbrev pub Keeps : State → State → Type 0
@@ -17,6 +18,7 @@ Keeps old new = (new.buckets ≡ old.buckets) × (new.block ≡ old.block)
 
 takes_keeps : (s : State) (q : ℕ) (m : Asked) (draws : List Draw) (does : FlowStep) → Keeps s (takes s q m draws does).state
 takes_keeps s q m draws (More f phase) = (refl, refl)
+takes_keeps s q m draws (Need f wanted) = (refl, refl)
 takes_keeps s q m draws (Wait f) = (refl, refl)
 takes_keeps s q m draws (End end) = (refl, refl)
 
@@ -47,3 +49,16 @@ drains_keeps (suc n) s =
           let rest : Keeps o.state (drains n o.state).state = drains_keeps n o.state in
           (rest.0 ∙ first.0, rest.1 ∙ first.1)
     ]
+
+-- and so does what streamed uploads do whose client was heard
+hears_keeps : (s : State) (q : ℕ) (m : Asked) (next : stream.Step) → Keeps s (hears s q m next).state
+hears_keeps s q m None = (refl, refl)
+hears_keeps s q m (Some next) = (refl, refl)
+
+heard_in_keeps : (s : State) (q : ℕ) (says : Flow → stream.Step) (m : Asked) (f : Option Flow) → Keeps s (heard_in s q says m f).state
+heard_in_keeps s q says m None = (refl, refl)
+heard_in_keeps s q says m (Some f) = hears_keeps s q m (says f)
+
+pub heard_keeps : (s : State) (q : ℕ) (says : Flow → stream.Step) (m : Option Asked) → Keeps s (heard s q says m).state
+heard_keeps s q says None = (refl, refl)
+heard_keeps s q says (Some m) = heard_in_keeps s q says m m.flow

@@ -1,5 +1,6 @@
 pub mod Becoming
 pub mod Causes
+pub mod Clients
 pub mod Counts
 pub mod Delivers
 pub mod Drains

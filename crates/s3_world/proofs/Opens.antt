@@ -41,6 +41,7 @@ opened_count w n m =
 -- a request waits as its kind does
 begun_reading : (o : Order) (id block : ℕ) → IsReadingAs (kind_of o) None (Some (started o id block).0)
 begun_reading (order.Put bucket key body headers) id block = refl
+begun_reading (order.Stream bucket key announced headers) id block = refl
 begun_reading (order.Get bucket key) id block = refl
 begun_reading (order.Head bucket key) id block = refl
 begun_reading (order.Delete bucket key) id block = refl

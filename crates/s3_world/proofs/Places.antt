@@ -1,20 +1,28 @@
 -- Requests by their places and numbers.
-use Rattle.std.proofs.Common.{◌≡◌, ℕ, zero, suc, ◌+◌, ◌<◌, ◌≤◌, Some, None, List, [], ◌∷◌, ◌++◌, length, refl, ap, ◌∙◌, subst, arith, ◌⊎◌, inl, inr}
-use Rattle.std.specs.Prelude.{slice_get, slice_set, map}
+use Rattle.std.proofs.Common.{◌≡◌, ℕ, zero, suc, ◌+◌, ◌<◌, ◌≤◌, Some, None, List, [], ◌∷◌, ◌++◌, length, refl, sym, ap, ◌∙◌, subst, arith, ◌⊎◌, inl, inr}
+use Rattle.std.specs.Prelude.{slice_get, slice_set, map, option_map}
+use Rattle.std.proofs.lemmas.Option.{slice_get-map}
 use Rattle.std.specs.List.{AllByRecursion}
 use Rattle.cluster_machine.specs.World.{numbered}
-use Rattle.store_model.specs.Run.{Asked as Waiting}
-use Rattle.s3_world.specs.Driven.{Known, kept}
+use Rattle.store_model.specs.Run.{State, Asked as Waiting}
+use Rattle.s3_world.specs.declared.asked.Asked.{Asked}
+use Rattle.s3_world.specs.declared.driver.Driver.{Driver}
+use Rattle.s3_world.specs.Driven.{Known, known, kept, IsHanding}
+use Rattle.s3_world.specs.Reads.{Handed}
 
 pub numbered_place : {A : Type 0} (xs : List A) (i q : ℕ) → i + 1 ≡ q → numbered xs q ≡ slice_get xs i
 numbered_place xs i zero e = absurd (omega arith)
 numbered_place xs i (suc q) e = let same : q ≡ i = omega arith in ap (slice_get xs) same
 
 -- the model's request of which this is known
-pub get_kept : (xs : List Waiting) (i : ℕ) (a : Known) → slice_get (map kept xs) i ≡ Some a → (m : Waiting) × (slice_get xs i ≡ Some m) × (kept m ≡ a)
+get_kept : (xs : List Waiting) (i : ℕ) (a : Known) → slice_get (map kept xs) i ≡ Some a → (m : Waiting) × (slice_get xs i ≡ Some m) × (kept m ≡ a)
 get_kept [] i a h = absurd (cc)
 get_kept (m ∷ xs) zero a h = (m, refl, cc)
 get_kept (m ∷ xs) (suc i) a h = get_kept xs i a h
+
+-- the model's request at the place of one of the driver's
+pub waiting_at : {F : Type 0} {given : Handed} (driver : Driver F) (s : State) → IsHanding given driver s → (i : ℕ) (a : Asked) → slice_get driver.requests i ≡ Some a → (m : Waiting) × (slice_get s.asked i ≡ Some m) × (kept m ≡ known a)
+waiting_at driver s d i a at = get_kept s.asked i (known a) (sym (ap (λ rs. slice_get rs i) d.requests) ∙ (slice_get-map known driver.requests i ∙ ap (option_map known) at))
 
 get_past : (xs : List Waiting) (q : ℕ) → length (map kept xs) < q → numbered xs q ≡ None
 get_past [] zero lt = refl
@@ -52,6 +60,11 @@ module _ {A : Type 0} where
   get_set [] i x y h = absurd (cc)
   get_set (z ∷ xs) zero x y h = refl
   get_set (z ∷ xs) (suc i) x y h = get_set xs i x y h
+
+  pub get_within : (xs : List A) (i : ℕ) → i < length xs → (x : A) × (slice_get xs i ≡ Some x)
+  get_within [] i less = absurd (omega arith)
+  get_within (z ∷ xs) zero less = (z, refl)
+  get_within (z ∷ xs) (suc i) less = get_within xs i (omega arith)
 
   get_other : (xs : List A) (i j : ℕ) (y : A) → (i ≡ j → ⊥) → slice_get (slice_set xs i y) j ≡ slice_get xs j
   get_other [] i j y other = refl

@@ -10,7 +10,7 @@ use Rattle.wire_messages.specs.declared.phase.PhaseEnd.{PhaseEnd}
 use Rattle.history_model.specs.declared.record.Record.{Record}
 use Rattle.flow_model.specs.declared.flow.Flow.{Flow}
 use Rattle.flow_model.specs.declared.flow.FlowStep.{FlowStep}
-use Rattle.flow_model.specs.declared.flow.FlowStep.TheVariants.{More, Wait, End}
+use Rattle.flow_model.specs.declared.flow.FlowStep.TheVariants.{More, Need, Wait, End}
 use Rattle.flow_model.specs.declared.flow.FlowEnd.{FlowEnd}
 use Rattle.flow_model.specs.Next as flow
 use Rattle.cluster_machine.specs.World.{numbered}
@@ -65,16 +65,19 @@ not_seen (e ∷ saw) n q seen past =
 
 ended_here : (ends : List (ℕ × FlowEnd)) (q : ℕ) (does : FlowStep) → end_of ends q ≡ None → end_of (ends_then ends q does) q ≡ end_then does
 ended_here ends q (More f phase) none = none
+ended_here ends q (Need f wanted) none = none
 ended_here ends q (Wait f) none = none
 ended_here ends q (End end) none = end_pushed ends q end none
 
 ended_there : (ends : List (ℕ × FlowEnd)) (q p : ℕ) (does : FlowStep) → (q ≡ p → ⊥) → end_of (ends_then ends q does) p ≡ end_of ends p
 ended_there ends q p (More f phase) other = refl
+ended_there ends q p (Need f wanted) other = refl
 ended_there ends q p (Wait f) other = refl
 ended_there ends q p (End end) other = end_of_others ends q p end other
 
 over_then : (asked : List Waiting) (ends : List (ℕ × FlowEnd)) (q : ℕ) (m : Waiting) (does : FlowStep) → numbered asked q ≡ Some (record m { flow = flow_then does }) → end_of ends q ≡ None → AreOver asked ends → AreOver asked (ends_then ends q does)
 over_then asked ends q m (More f phase) at none over = over
+over_then asked ends q m (Need f wanted) at none over = over
 over_then asked ends q m (Wait f) at none over = over
 over_then asked ends q m (End end) at none over = over_pushed asked ends q end over (subst IsOver (sym at) refl) none
 
@@ -82,17 +85,18 @@ seen_within : (saw : List Saw) (n m : ℕ) → n ≤ m → AllByRecursion (λ (e
 seen_within [] n m less seen = tt
 seen_within (e ∷ saw) n m less seen = let here : e.request ≤ n = seen.0 in (omega arith, seen_within saw n m less seen.1)
 
--- ---- a phase of request q ended
+-- ---- request q goes on
 
-module _ (requests : List Asked) (s t : State) (i q : ℕ) (place : i + 1 ≡ q) (a : Asked) (at : slice_get requests i ≡ Some a) (m : Waiting) (model_at : slice_get s.asked i ≡ Some m) (same_kind : a.kind ≡ m.kind)
-    (f : Flow) (going : a.flow ≡ Some f) (waits : m.flow ≡ Some f) (end : PhaseEnd AnyRow) (now : ℕ) (does : FlowStep) (is : does ≡ flow.next f end now)
-    (asked_is : t.asked ≡ slice_set s.asked i (record m { flow = flow_then does })) (ends_are : t.ends ≡ ends_then s.ends q does) (saw_is : t.saw ≡ record { request = q; end = end } ∷ s.saw) (count_is : length t.world.requests ≡ length s.world.requests) where
-  -- the request now, in code and model
-  abbrev pub now_kept : Asked
-  now_kept = record (heard a f.stage end) { flow = flow_then does }
-
+-- what is kept of it now is what it has read, once it does this
+module _ (requests : List Asked) (s t : State) (i q : ℕ) (place : i + 1 ≡ q) (a now : Asked) (at : slice_get requests i ≡ Some a) (m : Waiting) (model_at : slice_get s.asked i ≡ Some m) (same_kind : a.kind ≡ m.kind)
+    (f : Flow) (going : a.flow ≡ Some f) (waits : m.flow ≡ Some f) (does : FlowStep)
+    (asked_is : t.asked ≡ slice_set s.asked i (record m { flow = flow_then does })) (ends_are : t.ends ≡ ends_then s.ends q does) (count_is : length t.world.requests ≡ length s.world.requests)
+    (found_is : a.found ≡ found_of (Some (record m { kind = a.kind; flow = Some f })) (end_of s.ends q) (object_seen s.saw q) → now.found ≡ found_of (Some (record m { kind = a.kind; flow = flow_then does })) (end_then does) (object_seen t.saw q))
+    (left_is : IsReadingAs a.kind a.blocks (Some f) → (given : List ℕ) → IsLeft a.blocks given (gathered_at (Some f.stage)) → IsLeft now.blocks given (gathered_then does) × IsReading now)
+    (seen_is : AllByRecursion (λ (e : Saw). e.request ≤ length s.asked) s.saw → q ≤ length s.asked → AllByRecursion (λ (e : Saw). e.request ≤ length s.asked) t.saw)
+    (saw_others : (p : ℕ) → (q ≡ p → ⊥) → object_seen t.saw p ≡ object_seen s.saw p) where
   abbrev requests_now : List Asked
-  requests_now = slice_set requests i now_kept
+  requests_now = slice_set requests i now
 
   abbrev m_now : Waiting
   m_now = record m { flow = flow_then does }
@@ -100,8 +104,8 @@ module _ (requests : List Asked) (s t : State) (i q : ℕ) (place : i + 1 ≡ q)
   old_at : numbered requests q ≡ Some a
   old_at = numbered_place requests i q place ∙ at
 
-  new_at : numbered requests_now q ≡ Some now_kept
-  new_at = numbered_set requests i q a now_kept place at
+  new_at : numbered requests_now q ≡ Some now
+  new_at = numbered_set requests i q a now place at
 
   model_old : numbered s.asked q ≡ Some (record m { flow = Some f })
   model_old = numbered_place s.asked i q place ∙ model_at ∙ ap (λ (o : Option Flow). Some (record m { flow = o })) waits
@@ -113,7 +117,7 @@ module _ (requests : List Asked) (s t : State) (i q : ℕ) (place : i + 1 ≡ q)
   model_there p other = ap (λ xs. numbered xs p) asked_is ∙ numbered_other s.asked i q p m_now place other
 
   code_there : (p : ℕ) → (q ≡ p → ⊥) → numbered requests_now p ≡ numbered requests p
-  code_there p other = numbered_other requests i q p now_kept place other
+  code_there p other = numbered_other requests i q p now place other
 
   module _ (over : AreOver s.asked s.ends) where
     no_end : end_of s.ends q ≡ None
@@ -147,8 +151,7 @@ module _ (requests : List Asked) (s t : State) (i q : ℕ) (place : i + 1 ≡ q)
       left_here : (given : List ℕ) → IsLeft (blocks_in (numbered requests q)) given (gathered s q) → IsLeft (blocks_in (numbered requests_now q)) given (gathered t q)
       left_here given h =
           let before : IsLeft a.blocks given (gathered_at (Some f.stage)) = subst (IsLeft a.blocks given) gathered_old (subst (λ o. IsLeft (blocks_in o) given (gathered s q)) old_at h) in
-          let after : IsLeft now_kept.blocks given (gathered_then does) = subst (λ d. IsLeft now_kept.blocks given (gathered_then d)) (sym is) (left_next f end now given a.kind a.blocks reads_so before) in
-          subst (λ o. IsLeft (blocks_in o) given (gathered t q)) (sym new_at) (subst (IsLeft now_kept.blocks given) (sym gathered_here) after)
+          subst (λ o. IsLeft (blocks_in o) given (gathered t q)) (sym new_at) (subst (IsLeft now.blocks given) (sym gathered_here) (left_is reads_so given before).0)
 
       left_there : (p : ℕ) → (q ≡ p → ⊥) → (given : List ℕ) → IsLeft (blocks_in (numbered requests p)) given (gathered s p) → IsLeft (blocks_in (numbered requests_now p)) given (gathered t p)
       left_there p other given h =
@@ -164,10 +167,10 @@ module _ (requests : List Asked) (s t : State) (i q : ℕ) (place : i + 1 ≡ q)
           ))
           (λ other. left_there given.request other given.bytes h)
 
-      reading_now : (given : List ℕ) → IsLeft (blocks_in (numbered requests q)) given (gathered s q) → IsReading now_kept
+      reading_now : (given : List ℕ) → IsLeft (blocks_in (numbered requests q)) given (gathered s q) → IsReading now
       reading_now given h =
           let before : IsLeft a.blocks given (gathered_at (Some f.stage)) = subst (IsLeft a.blocks given) gathered_old (subst (λ o. IsLeft (blocks_in o) given (gathered s q)) old_at h) in
-          subst (λ d. IsReadingAs a.kind now_kept.blocks (flow_then d)) (sym is) (reading_next f end now given a.kind a.blocks reads_so before)
+          (left_is reads_so given before).1
 
   -- ---- what is found
 
@@ -177,9 +180,8 @@ module _ (requests : List Asked) (s t : State) (i q : ℕ) (place : i + 1 ≡ q)
       sym (ap found_in old_at) ∙ h ∙ ap (λ o. found_of o (end_of s.ends q) (object_seen s.saw q)) model_old ∙ ap (λ k. found_of (Some (record m { kind = k; flow = Some f })) (end_of s.ends q) (object_seen s.saw q)) (sym same_kind)
       in
       ap found_in new_at
-      ∙ found_next m f end (end_of s.ends q) a.kind a.found (object_seen s.saw q) (flow_then does) (end_then does) (there_then does m) old
-      ∙ ap (λ k. found_of (Some (record m { kind = k; flow = flow_then does })) (end_then does) (option_or (object_seen s.saw q) (object_given end))) same_kind
-      ∙ ap (found_of (Some m_now) (end_then does)) (sym (ap (λ saw. object_seen saw q) saw_is ∙ seen_here s.saw q end))
+      ∙ found_is old
+      ∙ ap (λ k. found_of (Some (record m { kind = k; flow = flow_then does })) (end_then does) (object_seen t.saw q)) same_kind
       ∙ ap (λ e. found_of (Some m_now) e (object_seen t.saw q)) (sym (end_here over))
       ∙ ap (λ o. found_of o (end_of t.ends q) (object_seen t.saw q)) (sym model_new)
 
@@ -189,28 +191,51 @@ module _ (requests : List Asked) (s t : State) (i q : ℕ) (place : i + 1 ≡ q)
       ∙ h
       ∙ ap (λ o. found_of o (end_of s.ends p) (object_seen s.saw p)) (sym (model_there p other))
       ∙ ap (λ e. found_of (numbered t.asked p) e (object_seen s.saw p)) (sym (end_there over p other))
-      ∙ ap (found_of (numbered t.asked p) (end_of t.ends p)) (sym (ap (λ saw. object_seen saw p) saw_is ∙ seen_there s.saw q p end other))
+      ∙ ap (found_of (numbered t.asked p) (end_of t.ends p)) (sym (saw_others p other))
 
   -- ---- all of it
 
-  pub reads_next : (given : Handed) → AreRead given requests s → AreRead given requests_now t
-  reads_next given reads =
+  pub reads_on : (given : Handed) → AreRead given requests s → AreRead given requests_now t
+  reads_on given reads =
       let reading : IsReading a = all_get IsReading requests i a reads.reading at in
       let over : AreOver s.asked s.ends = reads.over in
       let length_is : length t.asked ≡ length s.asked = ap length asked_is ∙ length-set s.asked i m_now in
       let within : q ≤ length s.asked = numbered_within s.asked q (record m { flow = Some f }) model_old in
-      let seen : AllByRecursion (λ (e : Saw). e.request ≤ length s.asked) t.saw = subst (AllByRecursion (λ (e : Saw). e.request ≤ length s.asked)) (sym saw_is) (within, reads.seen) in
       record {
         found = λ p. by_number q p (found_in (numbered requests_now p) ≡ found_by t p)
             (λ same. subst (λ p. found_in (numbered requests_now p) ≡ found_by t p) same (found_here over (reads.found q)))
             (λ other. found_there over p other (reads.found p));
         left = λ p. let h = reads.left p in (h.0, handed_next over reading (of p h.0) h.1);
         handed = handed_next over reading given reads.handed;
-        reading = let h = reads.left q in all_set IsReading requests i now_kept reads.reading (reading_now over reading h.0 h.1);
+        reading = let h = reads.left q in all_set IsReading requests i now reads.reading (reading_now over reading h.0 h.1);
         over = over_now over;
-        seen = subst (λ n. AllByRecursion (λ (e : Saw). e.request ≤ n) t.saw) (sym length_is) seen;
+        seen = subst (λ n. AllByRecursion (λ (e : Saw). e.request ≤ n) t.saw) (sym length_is) (seen_is reads.seen within);
         count = length_is ∙ reads.count ∙ sym count_is;
       }
+
+-- a phase of it ended
+module _ (requests : List Asked) (s t : State) (i q : ℕ) (place : i + 1 ≡ q) (a : Asked) (at : slice_get requests i ≡ Some a) (m : Waiting) (model_at : slice_get s.asked i ≡ Some m) (same_kind : a.kind ≡ m.kind)
+    (f : Flow) (going : a.flow ≡ Some f) (waits : m.flow ≡ Some f) (end : PhaseEnd AnyRow) (now : ℕ) (does : FlowStep) (is : does ≡ flow.next f end now)
+    (asked_is : t.asked ≡ slice_set s.asked i (record m { flow = flow_then does })) (ends_are : t.ends ≡ ends_then s.ends q does) (saw_is : t.saw ≡ record { request = q; end = end } ∷ s.saw) (count_is : length t.world.requests ≡ length s.world.requests) where
+  -- the request now
+  abbrev pub now_kept : Asked
+  now_kept = record (heard a f.stage end) { flow = flow_then does }
+
+  found_so : a.found ≡ found_of (Some (record m { kind = a.kind; flow = Some f })) (end_of s.ends q) (object_seen s.saw q) → now_kept.found ≡ found_of (Some (record m { kind = a.kind; flow = flow_then does })) (end_then does) (object_seen t.saw q)
+  found_so found =
+      found_next m f end (end_of s.ends q) a.kind a.found (object_seen s.saw q) (flow_then does) (end_then does) (there_then does m) found
+      ∙ ap (found_of (Some (record m { kind = a.kind; flow = flow_then does })) (end_then does)) (sym (ap (λ saw. object_seen saw q) saw_is ∙ seen_here s.saw q end))
+
+  left_so : IsReadingAs a.kind a.blocks (Some f) → (given : List ℕ) → IsLeft a.blocks given (gathered_at (Some f.stage)) → IsLeft now_kept.blocks given (gathered_then does) × IsReading now_kept
+  left_so reading given left = (
+    subst (λ d. IsLeft now_kept.blocks given (gathered_then d)) (sym is) (left_next f end now given a.kind a.blocks reading left),
+    subst (λ d. IsReadingAs a.kind now_kept.blocks (flow_then d)) (sym is) (reading_next f end now given a.kind a.blocks reading left),
+  )
+
+  pub reads_next : (given : Handed) → AreRead given requests s → AreRead given (slice_set requests i now_kept) t
+  reads_next =
+      reads_on requests s t i q place a now_kept at m model_at same_kind f going waits does asked_is ends_are count_is found_so left_so
+      (λ seen within. subst (AllByRecursion (λ (e : Saw). e.request ≤ length s.asked)) (sym saw_is) (within, seen)) (λ p other. ap (λ saw. object_seen saw p) saw_is ∙ seen_there s.saw q p end other)
 
 -- ---- a request begins
 

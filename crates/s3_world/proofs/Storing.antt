@@ -19,7 +19,7 @@ use Rattle.s3_world.specs.Driven as driven
 use Rattle.s3_world.specs.Driven.{known, kept, IsReady, IsHanding, IsDriven, HasRun}
 use Rattle.s3_world.specs.Reads.{Handed, of, HasAll}
 use Rattle.s3_world.specs.Doing as doing
-use Rattle.s3_world.specs.Stands.{Holds, IsStore, IsGiving, HasStore, Becomes, KeepsTold, KeepsIf, KeepsStep, Overflows, OverflowsIf, OverflowsStep}
+use Rattle.s3_world.specs.Stands.{Holds, IsStore, IsGiving, HasStore, Becomes, Keeps as KeepsGiven, KeepsTold, KeepsIf, KeepsStep, Overflows, OverflowsIf, OverflowsStep}
 use Rattle.s3_world.proofs.Keeping.{Keeps}
 use Rattle.s3_world.proofs.Reading.{whatever, reads_moved, number_to_come}
 
@@ -116,6 +116,10 @@ module _ (old : S3World) (new : Driver ObjectFlows) where
     pub plays : (r : Result Told Memory) → IfOk r (λ told. driven.Plays old.driver new told f) → IfOk r (λ told. KeepsTold old after told f)
     plays (Err e) h = tt
     plays (Ok told) h = λ given s d. does told s (f s) d (keeps s) (h given s (is_handing old s d))
+
+    -- what it tells aside
+    pub carries : (told : Told) → driven.Plays old.driver new told f → KeepsGiven old after f
+    carries told h given s d = let did = h given s (is_handing old s d) in (is_store s (f s).state d (keeps s) did.stands, did.fits)
 
   pub opened_plays : (n : ℕ) (order : Order) (r : Result Told Memory) → IfOk r (λ told. driven.PlaysIf (IsReady n old.block) old.driver new told (λ s. opened s n order)) →
       IfOk r (λ told. KeepsIf (IsMember n) old after told (λ s. opened s n order))

@@ -9,7 +9,7 @@ use Rattle.s3_world.specs.declared.asked.Asked.{Asked}
 use Rattle.s3_world.specs.declared.driver.Driver.{Driver}
 use Rattle.s3_world.specs.Driven.{Known, known, IsSized, IsHanding}
 use Rattle.s3_world.specs.Reads.{of, HasNoBlock, AreRead, HasAll}
-use Rattle.s3_world.proofs.Places.{get_kept, set_same, all_set, all_get}
+use Rattle.s3_world.proofs.Places.{waiting_at, set_same, all_set, all_get}
 use Rattle.s3_world.proofs.Handing.{piece_handed, all_handed}
 
 module _ {F : Type 0} (old : Driver F) (i q : ℕ) (place : i + 1 ≡ q) (a : Asked) (at : slice_get old.requests i ≡ Some a) (now : Asked) where
@@ -46,6 +46,6 @@ module _ {F : Type 0} (old : Driver F) (i q : ℕ) (place : i + 1 ≡ q) (a : As
 
   pub none_left : (r : Option (List ℕ)) → IfNone r ((now ≡ a) × HasNoBlock a.blocks) → IfNone r ((s : State) (bytes : List ℕ) → IsHanding (of q bytes) old s → HasAll s q bytes)
   none_left None h = λ s bytes d.
-      let m = get_kept s.asked i (known a) (sym (ap (λ rs. slice_get rs i) d.requests) ∙ known_there) in
+      let m = waiting_at old s d i a at in
       all_handed old.requests s i q place a at m.0 m.1 (ap (λ (x : Known). x.kind) (sym m.2)) (ap (λ (x : Known). x.flow) (sym m.2)) h.1 bytes d.reads
   none_left (Some piece) h = tt

@@ -1,19 +1,22 @@
 -- When the driver of requests stands for a state of the model, whatever its buckets and its size of blocks are, and what a call of it does.
-use Rattle.std.specs.Prelude.{◌≡◌, ◌==◌, ◌<◌, ℕ, ⊤, true, Option, Some, None, List, [], ◌∷◌, ◌++◌, map, position}
+use Rattle.std.specs.Prelude.{◌≡◌, ◌==◌, ◌<◌, ◌+◌, ℕ, ⊤, true, Option, Some, None, List, [], ◌∷◌, ◌++◌, map, position, slice_get, slice_set}
+use Rattle.std.specs.Option.{option_and_then}
 use Rattle.std.specs.List.{AllByRecursion}
 use Rattle.crdt_rows.specs.declared.any_row.AnyRow.{AnyRow}
 use Rattle.crdt_rows.specs.AnyRow.{any_join}
 use Rattle.object_schema.specs.Schema.{words}
+use Rattle.wire_messages.specs.declared.phase.Phase.{Phase}
 use Rattle.cluster_machine.specs.declared.step.Step.{Step}
 use Rattle.cluster_machine.specs.declared.step.Step.TheVariants as step
 use Rattle.cluster_machine.specs.declared.step.Words.TheVariants.{Empty}
-use Rattle.cluster_machine.specs.World.{is_member_at}
+use Rattle.cluster_machine.specs.World.{numbered, is_member_at}
 use Rattle.cluster_machine.specs.Layouts.{layouts}
 use Rattle.history_model.specs.declared.record.Kind.{Kind}
 use Rattle.flow_model.specs.declared.flow.Flow.{Flow}
 use Rattle.flow_model.specs.declared.flow.FlowEnd.{FlowEnd}
+use Rattle.flow_model.specs.Streams.{need_of}
 use Rattle.store_model.specs.declared.event.Told.{Told}
-use Rattle.store_model.specs.Answers.{record_of, line_of}
+use Rattle.store_model.specs.Answers.{record_of, lines_of_end}
 use Rattle.store_model.specs.Run.{State, Asked as Waiting, Outcome}
 use Rattle.world_core.specs.declared.report.Report.{Report}
 use Rattle.world_core.specs.Stands.{StandsFor, Steps}
@@ -35,6 +38,14 @@ known a = record { node = a.node; kind = a.kind; flow = a.flow }
 -- of a request of the model
 abbrev pub kept : Waiting → Known
 kept m = record { node = m.node; kind = m.kind; flow = m.flow }
+
+-- what a request needs of its client, by what it waits for
+abbrev pub needs_of : Asked → Option ℕ
+needs_of a = option_and_then need_of a.flow
+
+-- the same of the request with a number
+abbrev pub needed_of : List Asked → ℕ → Option ℕ
+needed_of requests q = option_and_then needs_of (numbered requests q)
 
 -- the place of the end of a request among the ends
 abbrev pub place_in : List (ℕ × FlowEnd) → ℕ → Option ℕ
@@ -99,9 +110,24 @@ module _ {F : Type 0} where
   abbrev pub OverflowsStep : Driver F → Step AnyRow → Type 0
   OverflowsStep = doing.OverflowsStep IsDriven
 
-  -- request q was closed in the world, its end and its record stand last, and its line is told
+  -- request q was closed in the world, its end and its record stand last, and its lines are told
   pub record Finishes (old new : Driver F) (told : Told) (q : ℕ) (kind : Kind) (end : FlowEnd) : Type 0 where
     pub report : Report AnyRow
     pub closes : Steps any_join words old.world new.world report (step.Close q)
     pub rest : new ≡ record old { world = new.world; ends = old.ends ++ (q, end) ∷ []; history = record { 0 = old.history.0 ++ record_of q end ∷ [] } }
-    pub tells : told ≡ record { refused = None; words = Empty; lines = line_of q kind end ∷ [] }
+    pub tells : told ≡ record { refused = None; words = Empty; lines = lines_of_end q kind end }
+
+  -- request q at place i began this phase in the world and waits so; the phase's lines are told
+  pub record Begins (old new : Driver F) (told : Told) (i q : ℕ) (flow : Flow) (phase : Phase AnyRow) : Type 0 where
+    pub report : Report AnyRow
+    pub begins : Steps any_join words old.world new.world report (step.Phase q phase)
+    pub rest : (a : Asked) → slice_get old.requests i ≡ Some a → new ≡ record old { world = new.world; requests = slice_set old.requests i (record a { flow = Some flow }) }
+    pub tells : told ≡ record { refused = None; words = Empty; lines = report.lines }
+
+  -- what request q, at place i, waited for was taken from it
+  pub record TakesFlow (old new : Driver F) (q i : ℕ) (flow : Flow) : Type 0 where
+    pub asked : Asked
+    pub place : i + 1 ≡ q
+    pub there : slice_get old.requests i ≡ Some asked
+    pub waits : asked.flow ≡ Some flow
+    pub rest : new ≡ record old { requests = slice_set old.requests i (record asked { flow = None }) }

@@ -17,7 +17,7 @@ use Rattle.store_model.specs.declared.event.Event.{Event}
 use Rattle.store_model.specs.declared.event.Event.TheVariants.{Block, Role, Redundancy, Put, Delete, Copy, Expire, Restart}
 use Rattle.store_model.specs.declared.event.Told.{Told}
 use Rattle.store_model.specs.Run.{State, Outcome}
-use Rattle.store_model.specs.Acts.{asks, acted, IsLawfulAct}
+use Rattle.store_model.specs.Acts.{Act, asks, acted, IsLawfulAct}
 use Rattle.store_model.specs.Events.{act_of, outcome}
 use Rattle.store_model.specs.Turns.{FitsOutcome}
 use Rattle.world_core.specs.Stands.{StandsFor}
@@ -51,6 +51,10 @@ IsGiving c s q bytes = Holds (of q bytes) c s
 -- the store stands for some state: it was not given up
 abbrev pub HasStore : S3World → Type 0
 HasStore c = (s : State) × IsStore c s
+
+-- whatever state the store stands for, this act may happen in it
+abbrev pub Allows : S3World → Act → Type 0
+Allows c act = ties.Steps IsStore c (λ s. IsLawfulAct s act)
 
 -- roles are of nodes 1 to 64, redundancies of one to three zones, blocks have a byte or more, and so have the keys that are written
 abbrev pub IsMeantEvent : Event → Type 0

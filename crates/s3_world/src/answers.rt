@@ -1,7 +1,7 @@
-//! What is told of a request that ended by itself: its record in the history, and its line.
+//! What is told of a request that ended by itself: its record in the history, and its lines.
 ghost use Rattle.std.specs.Prelude.{◌≡◌, ◌++◌, [], ◌∷◌, IfOk, OnOk};
 ghost use Rattle.crdt_core.specs.Outcomes.{OnlyWant};
-ghost use Rattle.store_model.specs.Answers.{record_of as record_of_end, line_of as line_of_end, found_line as line_of_found, word_of as word_of_kind, versions_of, lines_of, entries};
+ghost use Rattle.store_model.specs.Answers.{record_of as record_of_end, lines_of_end, found_line as line_of_found, word_of as word_of_kind, versions_of, lines_of as lines_of_entries, entries};
 
 use cluster_machine::applied::Line;
 use cluster_machine::{DoneWord, EndWord};
@@ -40,7 +40,7 @@ fn versions_in(alloc: Global, rows: &List<ObjectRow>) -> Result<List<(Bytes, Ver
 
 // Appends the key of a row with timestamp, identifier and size, where a list shows it.
 fn push_line(shown: &mut List<(Bytes, u64, u64, u64)>, row: &ObjectRow) -> Result<(), Memory>
-    ensures ok { OnOk result (shown.new ≡ shown.old ++ lines_of (entries (row.now ∷ []))) }
+    ensures ok { OnOk result (shown.new ≡ shown.old ++ lines_of_entries (entries (row.now ∷ []))) }
     ensures want { OnlyWant result }
 {
     match row.newest() {
@@ -58,7 +58,7 @@ fn push_line(shown: &mut List<(Bytes, u64, u64, u64)>, row: &ObjectRow) -> Resul
 // The keys of rows that a list shows, each with timestamp, identifier and size.
 #[tactic(auto, using(crate::proofs::Listed::lines_first))]
 fn lines_in(alloc: Global, rows: &List<ObjectRow>) -> Result<List<(Bytes, u64, u64, u64)>, Memory>
-    ensures are { IfOk result (λ shown. shown ≡ lines_of (entries rows.now)) }
+    ensures are { IfOk result (λ shown. shown ≡ lines_of_entries (entries rows.now)) }
     ensures want { OnlyWant result }
 {
     let mut shown = List::new(alloc);
@@ -94,6 +94,10 @@ pub fn record_of(alloc: Global, request: u64, end: &FlowEnd) -> Result<Record, M
             request,
             cause: Cause::Superseded(*id),
         }),
+        FlowEnd::Aborted => Ok(Record::Ended {
+            request,
+            cause: Cause::Aborted,
+        }),
     }
 }
 
@@ -128,38 +132,63 @@ fn found_line(request: u64, kind: Kind, version: Version, meta: &Meta, body: &Pi
     }
 }
 
-/// The line of a request of this kind that ended so.
-pub fn line_of(alloc: Global, request: u64, kind: Kind, end: &FlowEnd) -> Result<Line, Memory>
-    ensures is { IfOk result (λ line. line ≡ line_of_end request kind end.now) }
+// A line alone.
+fn one(alloc: Global, line: Line) -> Result<List<Line>, Memory>
+    ensures is { IfOk result (λ lines. lines ≡ line ∷ []) }
+    ensures want { OnlyWant result }
+{
+    let mut lines = List::new(alloc);
+    lines.push(line)?;
+    Ok(lines)
+}
+
+/// The lines of a request of this kind that ended so.
+pub fn lines_of(
+    alloc: Global,
+    request: u64,
+    kind: Kind,
+    end: &FlowEnd,
+) -> Result<List<Line>, Memory>
+    ensures are { IfOk result (λ lines. lines ≡ lines_of_end request kind end.now) }
     ensures want { OnlyWant result }
 {
     match end {
-        FlowEnd::Stored { version, .. } => Ok(Line::Done {
-            request,
-            word: word_of(kind),
-            version: Some((version.ts, version.id)),
-            size: None,
-            md5: None,
-        }),
+        FlowEnd::Stored { version, .. } => one(
+            alloc,
+            Line::Done {
+                request,
+                word: word_of(kind),
+                version: Some((version.ts, version.id)),
+                size: None,
+                md5: None,
+            },
+        ),
         FlowEnd::Found {
             version,
             meta,
             body,
-        } => Ok(found_line(request, kind, *version, meta, body)),
-        FlowEnd::Nothing => Ok(Line::Done {
-            request,
-            word: word_of(kind),
-            version: None,
-            size: None,
-            md5: None,
-        }),
-        FlowEnd::Listed(rows) => Ok(Line::Listed {
-            request,
-            keys: lines_in(alloc, rows)?,
-        }),
-        FlowEnd::Superseded(_) => Ok(Line::Ended {
-            request,
-            word: EndWord::Superseded,
-        }),
+        } => one(alloc, found_line(request, kind, *version, meta, body)),
+        FlowEnd::Nothing => one(
+            alloc,
+            Line::Done {
+                request,
+                word: word_of(kind),
+                version: None,
+                size: None,
+                md5: None,
+            },
+        ),
+        FlowEnd::Listed(rows) => {
+            let keys = lines_in(alloc, rows)?;
+            one(alloc, Line::Listed { request, keys })
+        }
+        FlowEnd::Superseded(_) => one(
+            alloc,
+            Line::Ended {
+                request,
+                word: EndWord::Superseded,
+            },
+        ),
+        FlowEnd::Aborted => Ok(List::new(alloc)),
     }
 }

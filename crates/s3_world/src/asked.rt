@@ -1,7 +1,9 @@
 //! What is kept of a request.
 ghost use Rattle.std.specs.Prelude.{◌≡◌, ◌∷◌, ℕ, List as Listed, Some, None, OnOk, IfOk, IfSome, IfNone};
 ghost use Rattle.crdt_core.specs.Outcomes.{OnlyWant};
+ghost use Rattle.flow_model.specs.Streams.{need_of as need_of_flow};
 ghost use Rattle.store_model.specs.Gets.{object_given as object_of_end};
+ghost use Rattle.s3_world.specs.Driven.{needs_of};
 ghost use Rattle.s3_world.specs.Reads.{heard, after_phase, with_block as one_more, HasNoBlock};
 
 use block_bytes::Block;
@@ -57,6 +59,23 @@ fn with_block(
     Ok(Some(blocks))
 }
 
+// What a request that waits so needs of its client.
+fn need_of(flow: &Flow) -> Option<u64>
+    ensures { result ≡ need_of_flow flow.now }
+{
+    match &flow.stage {
+        Stage::Needing {
+            coming,
+            received,
+            ..
+        } => {
+            let left = coming.length.saturating_sub(received.len() as u64);
+            Some(left.min(u64::from(flow.block)))
+        }
+        _ => None,
+    }
+}
+
 impl Asked {
     /// A request at a node, which waits so.
     pub fn new(node: u8, kind: Kind, flow: Flow) -> Asked
@@ -100,6 +119,25 @@ impl Asked {
             self.blocks = with_block(alloc, self.blocks.take(), block.share()?)?;
         }
         Ok(())
+    }
+
+    /// What it needs of its client: a block of so many bytes, or 0, to be told whether it is kept. None where it waits for
+    /// something else, or has ended.
+    pub fn need(&self) -> Option<u64>
+        ensures { result ≡ needs_of self.now }
+    {
+        match &self.flow {
+            Some(flow) => need_of(flow),
+            None => None,
+        }
+    }
+
+    /// What it waits for, which is taken from it. None where it has ended.
+    pub fn take_flow(&mut self) -> Option<Flow>
+        ensures flow { result ≡ self.old.flow }
+        ensures rest { self.new ≡ record self.old { flow = None } }
+    {
+        self.flow.take()
     }
 
     /// It waits so.

@@ -1,22 +1,25 @@
 //! The driver of requests, over any flows: they are opened, taken from phase to phase, and ended, over a cluster.
-ghost use Rattle.std.specs.Prelude.{◌≡◌, [], ◌∷◌, ◌++◌, ◌<◌, ◌⊎◌, ◌+◌, ◌^◌, ℕ, List as Listed, length, map, option_map, slice_get, slice_set, OnOk, IfOk, IfErr, IfSome, IfNone, Some, None};
+ghost use Rattle.std.specs.Prelude.{◌≡◌, [], ◌∷◌, ◌++◌, ◌<◌, ◌⊎◌, ◌+◌, ◌^◌, ℕ, List as Listed, length, map, option_map, slice_get, slice_set, IsSome, OnOk, IfOk, IfErr, IfSome, IfNone, Some, None};
 ghost use Rattle.std.specs.Option.{option_copied};
 ghost use Rattle.crdt_core.specs.Outcomes.{OnlyWant, WantOr};
+ghost use Rattle.blake2_hash.specs.Blake2b.{blake2b};
 ghost use Rattle.crdt_rows.specs.AnyRow.{any_join};
 ghost use Rattle.object_schema.specs.Schema.{words};
 ghost use Rattle.cluster_machine.specs.declared.step.Words.TheVariants.{Empty};
 ghost use Rattle.cluster_machine.specs.declared.step.Step.TheVariants as step;
+ghost use Rattle.cluster_machine.specs.Blocks.{BringsBlocks};
+ghost use Rattle.cluster_machine.specs.Keeping.{IsShort};
 ghost use Rattle.cluster_machine.specs.World.{numbered};
 ghost use Rattle.history_model.specs.declared.record.Cause.TheVariants.{Restarted};
 ghost use Rattle.history_model.specs.declared.record.Record.TheVariants.{Ended as HasEnded};
 ghost use Rattle.world_core.specs.Stands.{ended, IsWorld, Overflows as WorldOverflows};
-ghost use Rattle.store_model.specs.Run.{State, start as nothing_yet, opened, follow, goes_on, delivers, drains};
+ghost use Rattle.store_model.specs.Run.{State, start as nothing_yet, opened, follow, goes_on, delivers, drains, need_at, feeding, keeping, giving_up};
 ghost use Rattle.store_model.specs.Acts.{acted, takes, end_of, without_end};
 ghost use Rattle.store_model.specs.Gets.{found_by, body_of};
-ghost use Rattle.s3_world.specs.Driven.{place_in};
+ghost use Rattle.s3_world.specs.Driven.{place_in, needed_of};
 ghost use Rattle.s3_world.specs.Reads.{IsLeft, HasAll, with_first, of};
 
-use crate::answers::{line_of, record_of};
+use crate::answers::{lines_of, record_of};
 use crate::asked::Asked;
 use crate::orders::{began_with, kind_of};
 use block_bytes::Block;
@@ -30,7 +33,7 @@ use object_bytes::Pieces;
 use object_schema::S3Schema;
 use std::alloc::Global;
 use store_model::Told;
-use wire_messages::PhaseEnd;
+use wire_messages::{Phase, PhaseEnd};
 use world_core::World;
 
 /// A cluster with its requests, each with what it waits for, and their history. How a request begins and goes on is what
@@ -117,7 +120,7 @@ fn push_lost(history: &mut List<Record>, lost: &[u64]) -> Result<(), Memory>
 impl<F: Flows> Driver<F> {
     ghost use Rattle.flow_model.specs.declared.flow.Flow.{Flow};
     ghost use Rattle.s3_world.specs.declared.asked.Asked.{Asked as Requested};
-    ghost use Rattle.s3_world.specs.Driven.{IsDriven, IsHanding, HasRun, IsReady, Becomes, Plays, PlaysIf, PlaysStep, Overflows, OverflowsIf, OverflowsStep, Finishes};
+    ghost use Rattle.s3_world.specs.Driven.{IsDriven, IsHanding, HasRun, IsReady, Becomes, Plays, PlaysIf, PlaysStep, Overflows, OverflowsIf, OverflowsStep, Finishes, Begins, TakesFlow};
 
     /// Nothing has happened.
     pub fn new(alloc: Global, flows: F) -> Result<Driver<F>, Memory>
@@ -200,6 +203,69 @@ impl<F: Flows> Driver<F> {
         })
     }
 
+    /// What a streamed upload needs of its client: a block of so many bytes, or 0, to be told whether it is kept. None of a
+    /// request that isn't open, or waits for something else.
+    pub fn need(&self, request: u64) -> Option<u64>
+        ensures { (s : State) → IsDriven self.now s → result ≡ need_at s request }
+    {
+        let i = place(request, self.requests.len())?;
+        if self.world.is_open(request) {
+            self.requests.at(i).need()
+        } else {
+            None
+        }
+    }
+
+    /// A block has come that a streamed upload needs: it is stored.
+    pub fn feed(&mut self, request: u64, block: Block) -> Result<Told, Memory>
+        requires stands { HasRun self.old }
+        requires needed { needed_of self.old.requests request ≡ Some (length block) }
+        ensures plays { IfOk result (λ told. Plays self.old self.new told (λ s. feeding s request block)) }
+        ensures causes { WantOr result (Overflows self.old (λ s. feeding s request block)) }
+    {
+        let (i, flow) = self.take_flow(request);
+        let (flow, phase) = self.flows.block(self.alloc, flow, block)?;
+        self.begins(i, request, flow, phase)
+    }
+
+    /// A streamed upload is kept, all of whose bytes have come: its complete version is stored.
+    pub fn finish(&mut self, request: u64) -> Result<Told, Memory>
+        requires stands { HasRun self.old }
+        requires needed { needed_of self.old.requests request ≡ Some 0 }
+        ensures plays { IfOk result (λ told. Plays self.old self.new told (λ s. keeping s request)) }
+        ensures causes { WantOr result (Overflows self.old (λ s. keeping s request)) }
+    {
+        let (i, flow) = self.take_flow(request);
+        let (flow, phase) = self.flows.finish(self.alloc, flow)?;
+        self.begins(i, request, flow, phase)
+    }
+
+    /// A streamed upload is given up: that is stored.
+    pub fn abort(&mut self, request: u64) -> Result<Told, Memory>
+        requires stands { HasRun self.old }
+        requires needed { IsSome (needed_of self.old.requests request) }
+        ensures plays { IfOk result (λ told. Plays self.old self.new told (λ s. giving_up s request)) }
+        ensures causes { WantOr result (Overflows self.old (λ s. giving_up s request)) }
+    {
+        let (i, flow) = self.take_flow(request);
+        let (flow, phase) = self.flows.abort(self.alloc, flow)?;
+        self.begins(i, request, flow, phase)
+    }
+
+    // The place of a streamed upload that needs its client, and what it waits for, which is taken from it.
+    fn take_flow(&mut self, request: u64) -> (usize, Flow)
+        requires { IsSome (needed_of self.old.requests request) }
+        ensures { TakesFlow self.old self.new request result.0 result.1 }
+    {
+        let Some(i) = place(request, self.requests.len()) else {
+            unreachable!()
+        };
+        let Some(flow) = self.requests.at_mut(i).take_flow() else {
+            unreachable!()
+        };
+        (i, flow)
+    }
+
     /// Ends a request that is open.
     pub fn expire(&mut self, request: u64) -> Result<Told, Memory>
         requires stands { HasRun self.old }
@@ -244,9 +310,7 @@ impl<F: Flows> Driver<F> {
         let _ = self.world.step(Step::Close(request))?;
         let record = record_of(self.alloc, request, &end)?;
         self.history.0.push(record)?;
-        let line = line_of(self.alloc, request, kind, &end)?;
-        let mut lines = List::new(self.alloc);
-        lines.push(line)?;
+        let lines = lines_of(self.alloc, request, kind, &end)?;
         self.ends.push((request, end))?;
         Ok(accepted(lines))
     }
@@ -267,12 +331,8 @@ impl<F: Flows> Driver<F> {
         };
         let now = self.world.clock(node);
         match self.flows.next(self.alloc, flow, end, now)? {
-            FlowStep::More(flow, phase) => {
-                let report = self.world.step(Step::Phase(request, phase))?;
-                self.waits(i, flow);
-                Ok(accepted(report.lines))
-            }
-            FlowStep::Wait(flow) => {
+            FlowStep::More(flow, phase) => self.begins(i, request, flow, phase),
+            FlowStep::Need(flow, _) | FlowStep::Wait(flow) => {
                 self.waits(i, flow);
                 Ok(accepted(List::new(self.alloc)))
             }
@@ -286,6 +346,26 @@ impl<F: Flows> Driver<F> {
         ensures { (a : Requested) → slice_get self.old.requests i ≡ Some a → self.new ≡ record self.old { requests = slice_set self.old.requests i (record a { flow = Some flow }) } }
     {
         self.requests.at_mut(i).waits(flow);
+    }
+
+    // The request at a place begins its next phase.
+    fn begins(
+        &mut self,
+        i: usize,
+        request: u64,
+        flow: Flow,
+        phase: Phase<AnyRow>,
+    ) -> Result<Told, Memory>
+        requires stands { IsWorld any_join words self.old.world }
+        requires there { i < length self.old.requests }
+        requires short { IsShort phase }
+        requires stocked { BringsBlocks (blake2b 32) words phase }
+        ensures begins { IfOk result (λ told. Begins self.old self.new told i request flow phase) }
+        ensures causes { WantOr result (WorldOverflows any_join words self.old.world (step.Phase request phase)) }
+    {
+        let report = self.world.step(Step::Phase(request, phase))?;
+        self.waits(i, flow);
+        Ok(accepted(report.lines))
     }
 
     // What the request does whose phase ended, if one did.

@@ -15,6 +15,7 @@ pub fn kind_of(order: &Order) -> Kind
 {
     match order {
         Order::Put { .. } => Kind::Put,
+        Order::Stream { .. } => Kind::Put,
         Order::Get { .. } => Kind::Get,
         Order::Head { .. } => Kind::Head,
         Order::Delete { .. } => Kind::Delete,
@@ -30,6 +31,7 @@ fn place_of(order: &Order) -> (&Bytes, &Bytes)
 {
     match order {
         Order::Put { bucket, key, .. } => (bucket, key),
+        Order::Stream { bucket, key, .. } => (bucket, key),
         Order::Get { bucket, key } => (bucket, key),
         Order::Head { bucket, key } => (bucket, key),
         Order::Delete { bucket, key } => (bucket, key),
@@ -66,6 +68,7 @@ pub fn are_buckets(buckets: &Names, order: &Order) -> bool
 {
     match order {
         Order::Put { bucket, .. } => is_bucket(buckets, bucket),
+        Order::Stream { bucket, .. } => is_bucket(buckets, bucket),
         Order::Get { bucket, .. } => is_bucket(buckets, bucket),
         Order::Head { bucket, .. } => is_bucket(buckets, bucket),
         Order::Delete { bucket, .. } => is_bucket(buckets, bucket),

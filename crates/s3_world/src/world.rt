@@ -19,8 +19,8 @@ ghost use Rattle.flow_model.specs.declared.order.Order.{Order as Ordered};
 ghost use Rattle.crdt_rows.specs.AnyRow.{any_join};
 ghost use Rattle.change_model.specs.Given.{applying};
 ghost use Rattle.world_core.specs.Nodes.{shown_line};
-ghost use Rattle.store_model.specs.Run.{State, start as nothing_yet, begins, opened, delivers, drains, silent};
-ghost use Rattle.store_model.specs.Acts.{HasKey, acted, moves, installs, asks, drain, forgets, takes, end_of, all_messages};
+ghost use Rattle.store_model.specs.Run.{State, start as nothing_yet, begins, opened, delivers, drains, silent, need_at};
+ghost use Rattle.store_model.specs.Acts.{HasKey, acted, moves, installs, asks, drain, forgets, takes, feeds, keeps, gives_up, end_of, all_messages};
 ghost use Rattle.store_model.specs.Gets.{found_by};
 ghost use Rattle.s3_world.specs.Stands.{IsMeantEvent, IsCalm, IsQuiet};
 ghost use Rattle.s3_world.specs.Reads.{HasAll, with_first};
@@ -67,7 +67,7 @@ fn copy_role(role: &Option<(Zone, RoleKind)>) -> Result<Option<(Zone, RoleKind)>
 }
 
 impl S3World {
-    ghost use Rattle.s3_world.specs.Stands.{IsStore, IsGiving, Holds, HasStore, Becomes, Carries, Keeps, KeepsTold, KeepsIf, KeepsStep, KeepsIn, Starts, GivesNone, Plays, PlaysIf, PlaysStep, PlaysEvent, Overflows, OverflowsIf, OverflowsStep, OverflowsEvent};
+    ghost use Rattle.s3_world.specs.Stands.{IsStore, IsGiving, Holds, HasStore, Allows, Becomes, Carries, Keeps, KeepsTold, KeepsIf, KeepsStep, KeepsIn, Starts, GivesNone, Plays, PlaysIf, PlaysStep, PlaysEvent, Overflows, OverflowsIf, OverflowsStep, OverflowsEvent};
 
     /// Nothing has happened.
     pub fn new(alloc: Global) -> Result<S3World, Memory>
@@ -185,6 +185,48 @@ impl S3World {
             unreachable!()
         };
         Ok(Ok(number))
+    }
+
+    /// What a streamed upload needs of its client: a block of so many bytes, or 0, to be told whether it is kept. None of a
+    /// request that isn't open, or waits for something else.
+    pub fn need(&self, request: u64) -> Option<u64>
+        ensures { (s : State) → IsStore self.now s → result ≡ need_at s request }
+    {
+        self.driver.need(request)
+    }
+
+    /// A block has come that a streamed upload needs: it is stored. Hashes the bytes, and copies none.
+    pub fn feed(&mut self, request: u64, bytes: Bytes) -> Result<(), Memory>
+        requires stands { HasStore self.old }
+        requires needed { Allows self.old (feeds request bytes) }
+        ensures fed { OnOk result (Keeps self.old self.new (λ s. acted s (feeds request bytes))) }
+        ensures causes { WantOr result (Overflows self.old (λ s. acted s (feeds request bytes))) }
+    {
+        let block = Block::new(self.alloc, bytes)?;
+        let _ = self.driver.feed(request, block)?;
+        Ok(())
+    }
+
+    /// A streamed upload is kept, all of whose bytes have come: its complete version is stored.
+    pub fn finish(&mut self, request: u64) -> Result<(), Memory>
+        requires stands { HasStore self.old }
+        requires needed { Allows self.old (keeps request) }
+        ensures kept { OnOk result (Keeps self.old self.new (λ s. acted s (keeps request))) }
+        ensures causes { WantOr result (Overflows self.old (λ s. acted s (keeps request))) }
+    {
+        let _ = self.driver.finish(request)?;
+        Ok(())
+    }
+
+    /// A streamed upload is given up: that is stored.
+    pub fn abort(&mut self, request: u64) -> Result<(), Memory>
+        requires stands { HasStore self.old }
+        requires needed { Allows self.old (gives_up request) }
+        ensures given_up { OnOk result (Keeps self.old self.new (λ s. acted s (gives_up request))) }
+        ensures causes { WantOr result (Overflows self.old (λ s. acted s (gives_up request))) }
+    {
+        let _ = self.driver.abort(request)?;
+        Ok(())
     }
 
     /// The object that a get has found, until its end is taken. None of other requests.

@@ -1,15 +1,14 @@
 -- A cluster with layout changes to come, as a store.
-use Rattle.std.specs.Prelude.{◌==◌, ◌⊎◌, ℕ, suc, cond, ⊤, List, [], ◌∷◌, ◌++◌, length}
+use Rattle.std.specs.Prelude.{◌==◌, ◌⊎◌, ℕ, suc, cond, List, [], ◌∷◌, ◌++◌, length}
 use Rattle.layout_roles.specs.declared.redundancy.Redundancy.{Redundancy}
 use Rattle.layout_roles.specs.declared.layout.Layout.{Layout}
 use Rattle.cluster_machine.specs.declared.applied.Applied.{Applied}
 use Rattle.cluster_machine.specs.Layouts.{layouts}
 use Rattle.change_model.specs.Given.{layout_of, given_at}
 use Rattle.change_model.specs.Steps.{members_of_both}
-use Rattle.flow_model.specs.declared.order.Order.{Order}
 use Rattle.store_model.specs.Run.{State}
 use Rattle.store_model.specs.Acts.{Act, after_acts, AreLawfulActs, ActsFit}
-use Rattle.serve_model.specs.Stores.{Store}
+use Rattle.serve_model.specs.Stores.{Job, Store}
 use Rattle.serve_model.specs.Clusters.{Cluster, cluster, asker, acts_at, fits, lacks, ActLacksRoom}
 use Rattle.serve_changes.specs.Acts.{stages_of, change_acts}
 
@@ -49,10 +48,10 @@ abbrev pub with_change : Cluster → List (ℕ × Change) → Changing
 with_change c [] = record { cluster = c; to_come = [] }
 with_change c (ch ∷ chs) = cond (length c.run.world.requests == ch.0) (record { cluster = changed c ch.1; to_come = chs }) (record { cluster = c; to_come = ch ∷ chs })
 
--- the cluster carries out an order, and the change that it was to wait for
+-- the cluster carries out a job, and the change that it was to wait for
 abbrev pub changing : Store Changing
 changing = record {
-  carries = λ c time order. let carried = cluster.carries c.cluster time order in record { state = with_change carried.state c.to_come; end = carried.end; begun = carried.begun };
+  carries = λ c time job. let carried = cluster.carries c.cluster time job in record { state = with_change carried.state c.to_come; end = carried.end; begun = carried.begun };
   gives = λ c time order g. cluster.gives c.cluster time order g;
 }
 
@@ -61,10 +60,10 @@ abbrev pub acts_due : Cluster → List (ℕ × Change) → List Act
 acts_due c [] = []
 acts_due c (ch ∷ chs) = cond (length c.run.world.requests == ch.0) (acts_in c.run ch.1) []
 
--- the acts of orders, each with its time, and of the changes between them
-abbrev pub acts_through : Changing → List (ℕ × Order) → List Act
+-- the acts of jobs, each with its time, and of the changes between them
+abbrev pub acts_through : Changing → List (ℕ × Job) → List Act
 acts_through c [] = []
-acts_through c (o ∷ os) = acts_at c.cluster o.0 o.1 ++ (acts_due (cluster.carries c.cluster o.0 o.1).state c.to_come ++ acts_through (changing.carries c o.0 o.1).state os)
+acts_through c (j ∷ js) = acts_at c.cluster j.0 j.1 ++ (acts_due (cluster.carries c.cluster j.0 j.1).state c.to_come ++ acts_through (changing.carries c j.0 j.1).state js)
 
 -- ---- what fits
 
@@ -72,12 +71,12 @@ acts_through c (o ∷ os) = acts_at c.cluster o.0 o.1 ++ (acts_due (cluster.carr
 abbrev pub ChangeFits : Cluster → List (ℕ × Change) → Type 0
 ChangeFits c chs = AreLawfulActs c.run (acts_due c chs) × ActsFit c.run (acts_due c chs)
 
--- the acts of an order are lawful and fit, and so are those of the change after it
-abbrev pub changing_fits : Changing → ℕ → Order → Type 0
-changing_fits c time order = fits c.cluster time order × ChangeFits (cluster.carries c.cluster time order).state c.to_come
+-- the acts of a job are lawful and fit, and so are those of the change after it
+abbrev pub changing_fits : Changing → ℕ → Job → Type 0
+changing_fits c time job = fits c.cluster time job × ChangeFits (cluster.carries c.cluster time job).state c.to_come
 
--- an act of the order has no room, or the order fits and an act of the change after it has none
-abbrev pub changing_lacks : Changing → ℕ → Order → Type 0
-changing_lacks c time order =
-    let then = (cluster.carries c.cluster time order).state in
-    lacks c.cluster time order ⊎ (fits c.cluster time order × ActLacksRoom then.run (acts_due then c.to_come))
+-- an act of the job has no room, or the job fits and an act of the change after it has none
+abbrev pub changing_lacks : Changing → ℕ → Job → Type 0
+changing_lacks c time job =
+    let then = (cluster.carries c.cluster time job).state in
+    lacks c.cluster time job ⊎ (fits c.cluster time job × ActLacksRoom then.run (acts_due then c.to_come))

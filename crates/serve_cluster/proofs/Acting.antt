@@ -1,5 +1,5 @@
 -- Acts, one after the other.
-use Rattle.std.proofs.Common.{◌≡◌, ℕ, suc, ◌-◌, ◌⊎◌, inl, inr, List, [], ◌∷◌, ◌++◌, Bool, Option, Some, None, Result, Ok, Err, OnOk, IfOk, is_some, length, get_or, take, drop, ◌==◌, arith, true, false, refl, sym, ◌∙◌, ap, subst, append_assoc, append-nil}
+use Rattle.std.proofs.Common.{◌≡◌, ℕ, suc, ◌-◌, ◌⊎◌, inl, inr, List, [], ◌∷◌, ◌++◌, Bool, Option, Some, None, Result, Ok, Err, OnOk, IfOk, IsSome, is_some, length, get_or, take, drop, ◌==◌, arith, true, false, refl, sym, ◌∙◌, ap, subst, append_assoc, append-nil}
 use Rattle.std.proofs.lemmas.Bool.{eqb-true}
 use Rattle.std.proofs.lemmas.List.{map-append, take_all}
 use Rattle.layout_roles.specs.declared.cut.Cut.{Cut}
@@ -12,20 +12,21 @@ use Rattle.cluster_machine.specs.declared.step.Refusal.{Refusal}
 use Rattle.cluster_machine.specs.declared.step.Step.TheVariants.{Tick, Work}
 use Rattle.flow_model.specs.declared.order.Order.{Order}
 use Rattle.flow_model.specs.declared.flow.FlowEnd.{FlowEnd}
-use Rattle.flow_model.specs.declared.flow.FlowEnd.TheVariants.{Stored, Found, Nothing, Listed, Superseded}
+use Rattle.flow_model.specs.declared.flow.FlowEnd.TheVariants.{Stored, Found, Nothing, Listed, Superseded, Aborted}
 use Rattle.store_model.specs.declared.event.Event.{Event}
 use Rattle.store_model.specs.declared.event.Told.{Told}
-use Rattle.store_model.specs.Run.{State, plainly}
-use Rattle.store_model.specs.Acts.{Act, moves, asks, drain, forgets, takes, acted, after_acts, end_of, AreLawfulActs, ActsFit, IsLawfulAct, HasKey}
+use Rattle.store_model.specs.Run.{State, plainly, need_at}
+use Rattle.store_model.specs.Acts.{Act, moves, asks, drain, forgets, takes, gives_up, acted, after_acts, end_of, AreLawfulActs, ActsFit, IsLawfulAct, HasKey}
 use Rattle.store_model.specs.Events.{act_of}
 use Rattle.store_model.specs.Turns.{FitsOutcome}
 use Rattle.store_model.proofs.Acts.{acts_after}
 use Rattle.s3_world.specs.declared.world.S3World.{S3World}
 use Rattle.s3_world.specs.Reads.{Handed, of, nothing_handed, with_first}
-use Rattle.s3_world.specs.Stands.{IsStore, IsGiving, Holds, HasStore, Becomes, Keeps, Starts, Overflows, PlaysEvent, KeepsIn, OverflowsEvent, EventLacksRoom, DoesEvent}
+use Rattle.s3_world.specs.Stands.{IsStore, IsGiving, Holds, HasStore, Allows, Becomes, Keeps, Starts, Overflows, PlaysEvent, KeepsIn, OverflowsEvent, EventLacksRoom, DoesEvent}
 use Rattle.s3_world.proofs.Storing.{as_store}
-use Rattle.serve_model.specs.Clusters.{asker, acts_to_ask, acts_to_end, acts_past_end, acts_then, end_in, asking, acts_of_request, number_in, expiry, works, ActLacksRoom}
-use Rattle.serve_cluster.specs.Acting.{LedTo, DoneActs, DoesActs, KeepsActs, LacksRoom, IsDrained, TakesEnd, Finishes}
+use Rattle.serve_model.specs.Clusters.{asker, acts_to_ask, acts_to_end, acts_past_end, acts_opened, end_in, round, decided, expiry, works, ActLacksRoom}
+use Rattle.serve_cluster.specs.Acting.{LedTo, DoneActs, DoesActs, KeepsActs, LacksRoom, IsDrained, TakesEnd, Finished, Finishes}
+use Rattle.serve_cluster.specs.Uploads.{NeedIs}
 use Rattle.serve_cluster.proofs.Handing.{some_given}
 
 pub acts_lawful : (s : State) (xs ys : List Act) → AreLawfulActs s xs → AreLawfulActs (after_acts s xs) ys → AreLawfulActs s (xs ++ ys)
@@ -197,11 +198,18 @@ pub expire_lacks : (old : S3World) (q : ℕ) (end : Option FlowEnd) → is_some 
 expire_lacks old q None e h = expiry_lacks old q h
 expire_lacks old q (Some end) e h = absurd (let no' : true ≡ false = e in cc)
 
+-- an act of those that are always lawful, or of a client where it may be done
+pub done_act : (old new : S3World) (a : Act) → Allows old a → Keeps old new (λ s. acted s a) → KeepsActs old new (a ∷ [])
+done_act old new a may h = λ given s st. let x = h given s st in record { lawful = (may s (as_store old s st), tt); fit = (x.1, tt); stands = x.0 }
+
+pub act_lacks : (old : S3World) (a : Act) → Allows old a → Overflows old (λ s. acted s a) → LacksRoom old (λ _. a ∷ [])
+act_lacks old a may h = λ s st. lacks_act s a (may s st) (h s st)
+
 pub drained : (old new : S3World) (n : ℕ) → Keeps old new (λ s. acted s (drain n)) → KeepsActs old new (drain n ∷ [])
-drained old new n h = λ given s st. let x = h given s st in record { lawful = (tt, tt); fit = (x.1, tt); stands = x.0 }
+drained old new n h = done_act old new (drain n) (λ s st. tt) h
 
 pub drain_lacks : (old : S3World) (n : ℕ) → Overflows old (λ s. acted s (drain n)) → LacksRoom old (λ _. drain n ∷ [])
-drain_lacks old n h = λ s st. lacks_act s (drain n) tt (h s st)
+drain_lacks old n h = act_lacks old (drain n) (λ s st. tt) h
 
 is_none : {A : Type 0} (o : Option A) → is_some o ≡ false → o ≡ None
 is_none None e = refl
@@ -212,7 +220,7 @@ pub none_left : (old : S3World) (some : Bool) → ((s : State) → IsStore old s
 none_left old some h = λ none s st. is_none (undelivered s.world) (sym (h s st) ∙ none)
 
 pub ask_lacks : (old : S3World) (n : ℕ) (order : Order) → HasKey order → Overflows old (λ s. acted s (asks n order)) → LacksRoom old (λ _. asks n order ∷ [])
-ask_lacks old n order keyed h = λ s st. lacks_act s (asks n order) keyed (h s st)
+ask_lacks old n order keyed h = act_lacks old (asks n order) (λ s st. keyed) h
 
 taken : (old new : S3World) (q : ℕ) → Becomes old new (λ s. acted s (takes q)) → DoesActs old new (takes q ∷ [])
 taken old new q h = λ s st. record { lawful = (tt, tt); fit = (tt, tt); stands = h s st }
@@ -228,6 +236,7 @@ expiry_of q given (Some (Stored version meta)) = refl
 expiry_of q given (Some Nothing) = refl
 expiry_of q given (Some (Listed rows)) = refl
 expiry_of q given (Some (Superseded id)) = refl
+expiry_of q given (Some Aborted) = refl
 
 -- the end of the request as it was taken
 abbrev IsEnd : S3World → ℕ → Option FlowEnd → Type 0
@@ -257,13 +266,71 @@ with_nothing (Some (Stored version meta)) = refl
 with_nothing (Some Nothing) = refl
 with_nothing (Some (Listed rows)) = refl
 with_nothing (Some (Superseded id)) = refl
+with_nothing (Some Aborted) = refl
 
-finished : (old mid new : S3World) (members : List ℕ) (q : ℕ) (end : Option FlowEnd) → KeepsActs old mid (acts_to_end members) → TakesEnd mid new q end → Finishes old new members q end
+-- ---- to the end of a request, once more was done
+
+module _ (members : List ℕ) (s : State) (q : ℕ) (xs ys : List Act) where
+  to_end_parts : acts_to_end members (xs ++ ys) ≡ xs ++ acts_to_end members ys
+  to_end_parts =
+      let r : List Act = round members in append_assoc (xs ++ ys) r r ∙ (append_assoc xs ys (r ++ r) ∙ ap (λ (acts : List Act). xs ++ acts) (sym (append_assoc ys r r)))
+
+  ends_parts : end_in members s q (xs ++ ys) ≡ end_in members (after_acts s xs) q ys
+  ends_parts = ap (λ (acts : List Act). end_of (after_acts s acts).ends q) to_end_parts ∙ ap (λ (t : State). end_of t.ends q) (acts_after s xs (acts_to_end members ys))
+
+  pub opened_parts : acts_opened members s q (xs ++ ys) ≡ xs ++ acts_opened members (after_acts s xs) q ys
+  opened_parts =
+      let end : Option FlowEnd = end_in members (after_acts s xs) q ys in
+      ap (λ e. acts_to_end members (xs ++ ys) ++ acts_past_end q e) ends_parts
+      ∙ (ap (λ (acts : List Act). acts ++ acts_past_end q end) to_end_parts ∙ append_assoc xs (acts_to_end members ys) (acts_past_end q end))
+
+  -- the first of them have no room
+  pub first_lacks : ActLacksRoom s xs → ActLacksRoom s (acts_opened members s q (xs ++ ys))
+  first_lacks l = subst (ActLacksRoom s) (sym opened_parts) (lacks_first s xs (acts_opened members (after_acts s xs) q ys) l)
+
+  module _ (lawful : AreLawfulActs s xs) (fit : ActsFit s xs) where
+    abbrev past : List Act
+    past = acts_opened members (after_acts s xs) q ys
+
+    -- from where they lead the request came to its end
+    pub finished_past : (new : S3World) (end : Option FlowEnd) → Finished new (after_acts s xs) members q ys end → Finished new s members q (xs ++ ys) end
+    finished_past new end b = record {
+      end_is = b.end_is ∙ sym ends_parts;
+      does = subst (DoneActs new s) (sym opened_parts) (record {
+        lawful = acts_lawful s xs past lawful b.does.lawful;
+        fit = acts_fit s xs past fit b.does.fit;
+        stands = subst (λ t. IsStore new t) (sym (acts_after s xs past)) b.does.stands;
+      });
+    }
+
+    -- or those from there on have no room
+    pub opened_lacks : ActLacksRoom (after_acts s xs) past → ActLacksRoom s (acts_opened members s q (xs ++ ys))
+    opened_lacks l = subst (ActLacksRoom s) (sym opened_parts) (lacks_past s xs past lawful fit l)
+
+module _ (old mid : S3World) (members : List ℕ) (q : ℕ) (xs : List Act) (done : State → List Act) where
+  finishes_more : (new : S3World) (end : Option FlowEnd) → KeepsActs old mid xs → Finishes mid new members q done end → Finishes old new members q (λ s. xs ++ done (after_acts s xs)) end
+  finishes_more new end f g = λ s st.
+      let a = f (of q []) s st in
+      let t : State = after_acts s xs in
+      finished_past members s q xs (done t) a.lawful a.fit new end (g t a.stands)
+
+  pub finish_more : (r : Result (Option FlowEnd) Memory) (new : S3World) → KeepsActs old mid xs → IfOk r (λ end. Finishes mid new members q done end) → IfOk r (λ end. Finishes old new members q (λ s. xs ++ done (after_acts s xs)) end)
+  finish_more (Ok end) new f g = finishes_more new end f g
+  finish_more (Err e) new f g = tt
+
+  pub finish_lacks : KeepsActs old mid xs → LacksRoom mid (λ t. acts_opened members t q (done t)) → LacksRoom old (λ s. acts_opened members s q (xs ++ done (after_acts s xs)))
+  finish_lacks f g = λ s st. let a = f nothing_handed s st in opened_lacks members s q xs (done (after_acts s xs)) a.lawful a.fit (g (after_acts s xs) a.stands)
+
+pub begin_lacks : (old : S3World) (members : List ℕ) (q : ℕ) (xs : List Act) (more : State → List Act) → LacksRoom old (λ _. xs) → LacksRoom old (λ s. acts_opened members s q (xs ++ more s))
+begin_lacks old members q xs more f = λ s st. first_lacks members s q xs (more s) (f s st)
+
+-- nothing more is done than the two rounds
+finished : (old mid new : S3World) (members : List ℕ) (q : ℕ) (end : Option FlowEnd) → KeepsActs old mid (round members ++ round members) → TakesEnd mid new q end → Finishes old new members q (λ _. []) end
 finished old mid new members q end f g = λ s st.
-    let to : List Act = acts_to_end members in
+    let to : List Act = acts_to_end members [] in
     let a = f (of q []) s st in
     let b = g [] (after_acts s to) a.stands in
-    let past : List Act = acts_past_end q (end_in members s q) in
+    let past : List Act = acts_past_end q (end_in members s q []) in
     record {
       end_is = sym (with_nothing end) ∙ b.end_is;
       does = record {
@@ -273,9 +340,29 @@ finished old mid new members q end f g = λ s st.
       };
     }
 
-pub finish_next : (r : Result (Option FlowEnd) Memory) (old mid new : S3World) (members : List ℕ) (q : ℕ) → KeepsActs old mid (acts_to_end members) → IfOk r (λ end. TakesEnd mid new q end) → IfOk r (λ end. Finishes old new members q end)
+pub finish_next : (r : Result (Option FlowEnd) Memory) (old mid new : S3World) (members : List ℕ) (q : ℕ) → KeepsActs old mid (round members ++ round members) → IfOk r (λ end. TakesEnd mid new q end) → IfOk r (λ end. Finishes old new members q (λ _. []) end)
 finish_next (Ok end) old mid new members q f g = finished old mid new members q end f g
 finish_next (Err e) old mid new members q f g = tt
+
+-- ---- a request that is given up if it waits for bytes
+
+module _ (old new : S3World) (members : List ℕ) (q : ℕ) (need : Option ℕ) (is : NeedIs old q need) where
+  -- the acts, where it needs so much
+  abbrev left_with : Option ℕ → List Act
+  left_with o = decided false q o
+
+  pub may_leave : (size : ℕ) → need ≡ Some size → Allows old (gives_up q)
+  may_leave size some = λ s st. subst (λ (o : Option ℕ). IsSome o) (sym some ∙ is s st) refl
+
+  left_as : (o : Option ℕ) → need ≡ o → (end : Option FlowEnd) → Finishes old new members q (λ _. left_with o) end → Finishes old new members q (λ s. left_with (need_at s q)) end
+  left_as o same end f = λ s st. subst (λ x. Finished new s members q (left_with x) end) (sym same ∙ is s (as_store old s st)) (f s st)
+
+  pub left_next : (o : Option ℕ) → need ≡ o → (r : Result (Option FlowEnd) Memory) → IfOk r (λ end. Finishes old new members q (λ _. left_with o) end) → IfOk r (λ end. Finishes old new members q (λ s. left_with (need_at s q)) end)
+  left_next o same (Ok end) f = left_as o same end f
+  left_next o same (Err e) f = tt
+
+  pub left_lacks : (o : Option ℕ) → need ≡ o → LacksRoom old (λ s. acts_opened members s q (left_with o)) → LacksRoom old (λ s. acts_opened members s q (left_with (need_at s q)))
+  left_lacks o same f = λ s st. subst (λ x. ActLacksRoom s (acts_opened members s q (left_with x))) (sym same ∙ is s st) (f s st)
 
 -- ---- a request
 
@@ -287,12 +374,9 @@ module _ (members : List ℕ) (s : State) (ms : ℕ) (order : Order) where
       record { lawful = (a.lawful.0, (keyed, tt)); fit = (a.fit.0, (x.1, tt)); stands = x.0 }
 
 -- the first act of a request has no room: its time goes on
-pub ticking_lacks : (old : S3World) (members : List ℕ) (ms : ℕ) (order : Order) → LacksRoom old (λ _. moves (plainly (Tick ms)) ∷ []) → LacksRoom old (λ s. acts_of_request members s ms order)
-ticking_lacks old members ms order f =
-    lacks_then old (λ _. moves (plainly (Tick ms)) ∷ []) (λ s. let o = asking members s ms order in asks (asker members) order ∷ acts_then members o.state (number_in o.words) o.refused) f
+pub ticking_lacks : (old : S3World) (members : List ℕ) (ms : ℕ) (order : Order) → LacksRoom old (λ _. moves (plainly (Tick ms)) ∷ []) → LacksRoom old (λ _. acts_to_ask members ms order)
+ticking_lacks old members ms order f = lacks_then old (λ _. moves (plainly (Tick ms)) ∷ []) (λ _. asks (asker members) order ∷ []) f
 
 -- the second one: it is asked
-pub asking_lacks : (old mid : S3World) (members : List ℕ) (ms : ℕ) (order : Order) → DoesActs old mid (moves (plainly (Tick ms)) ∷ []) → LacksRoom mid (λ _. asks (asker members) order ∷ []) → LacksRoom old (λ s. acts_of_request members s ms order)
-asking_lacks old mid members ms order ticks f =
-    lacks_then old (λ _. acts_to_ask members ms order) (λ s. let o = asking members s ms order in acts_then members o.state (number_in o.words) o.refused)
-    (lacks_more old mid (moves (plainly (Tick ms)) ∷ []) (λ _. asks (asker members) order ∷ []) ticks f)
+pub asking_lacks : (old mid : S3World) (members : List ℕ) (ms : ℕ) (order : Order) → DoesActs old mid (moves (plainly (Tick ms)) ∷ []) → LacksRoom mid (λ _. asks (asker members) order ∷ []) → LacksRoom old (λ _. acts_to_ask members ms order)
+asking_lacks old mid members ms order ticks f = lacks_more old mid (moves (plainly (Tick ms)) ∷ []) (λ _. asks (asker members) order ∷ []) ticks f

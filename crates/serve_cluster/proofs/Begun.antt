@@ -8,8 +8,8 @@ use Rattle.store_model.specs.Run.{State, Outcome, plainly, drains}
 use Rattle.store_model.specs.Acts.{Act, moves, drain, acted, after_acts, all_messages, AreLawfulActs, ActsFit}
 use Rattle.s3_world.specs.declared.world.S3World.{S3World}
 use Rattle.s3_world.specs.Stands.{IsStore, IsGiving}
-use Rattle.serve_model.specs.Stores.{Given, IsFirstOf, given}
-use Rattle.serve_model.specs.Clusters.{Cluster as Model, asker, cluster, fits, lacks, wait, asking, number_in, works, round, acts_to_ask, acts_to_end, given_by, GivesSoFar}
+use Rattle.serve_model.specs.Stores.{carry, Given, IsFirstOf, given}
+use Rattle.serve_model.specs.Clusters.{delivered, Cluster as Model, asker, cluster, fits, lacks, wait, asking, number_in, works, round, acts_to_ask, acts_to_end, given_by, GivesSoFar, IsWhole}
 use Rattle.serve_model.specs.Serving.{CarriedOut}
 use Rattle.get_laws.specs.OnTheWay.{KnowsRequests, IsLater}
 use Rattle.get_laws.proofs.Firsts.{first_through}
@@ -23,7 +23,7 @@ use Rattle.serve_cluster.specs.declared.getting.Getting.{Getting}
 use Rattle.serve_cluster.specs.Standing.{StandsFor}
 use Rattle.serve_cluster.specs.Giving.{IsOpened, HasGiven, acts_since, IsGetting, IsNumber, HasAsked, IsComing, IsOnItsWay, GivesOrEnds, GivesNext, LacksGetting, HasGot, GivesNothing, new_get, begun_get}
 use Rattle.serve_cluster.proofs.Acting.{acts_lawful, acts_fit}
-use Rattle.serve_cluster.proofs.Carrying.{came, came_opened, lacks_opened}
+use Rattle.serve_cluster.proofs.Carrying.{order_came, order_full}
 use Rattle.serve_cluster.proofs.Draining.{drains_parts}
 use Rattle.serve_cluster.proofs.Giving.{given_first}
 
@@ -88,7 +88,7 @@ begins_so c getting time bucket key number holds is asked m st = subst (λ x. Is
 -- the state to which its acts led so far, and the one to which all do, are later and later
 module _ (members : List ℕ) (g : Getting) (few : g.left ≤ all_messages) (s : State) (q : ℕ) where
   abbrev Later : List Act → Type 0
-  Later acts = IsLater q (after_acts s acts) (after_acts s (acts_to_end members))
+  Later acts = IsLater q (after_acts s acts) (after_acts s (acts_to_end members delivered))
 
   abbrev drained_so : List Act
   drained_so = drain (all_messages - g.left) ∷ []
@@ -101,10 +101,10 @@ module _ (members : List ℕ) (g : Getting) (few : g.left ≤ all_messages) (s :
       let all : (drains all_messages s).state ≡ (drains g.left t).state = ap (λ n. (drains n s).state) (omega (arith, few)) ∙ ap (λ (o : Outcome). o.state) (drains_parts k g.left s) in
       record { acts = drain g.left ∷ rest; leave = acts_leave q members; after = ap (λ (u : State). after_acts u rest) all }
 
-  later_worked : Later (acts_to_end members)
+  later_worked : Later (acts_to_end members delivered)
   later_worked = record { acts = []; leave = tt; after = refl }
 
-  later_since : (worked : Bool) → Later (if worked then acts_to_end members else drained_so)
+  later_since : (worked : Bool) → Later (if worked then acts_to_end members delivered else drained_so)
   later_since true = later_worked
   later_since false = later_drained
 
@@ -122,17 +122,17 @@ module _ (c : Cluster) (m : Model) (time : ℕ) (order : Order) (so_far : Option
   of_get P x = subst P (sym h.is_get) x
 
   -- all that it gives
-  gives_all : (q : ℕ) → IsNumber (Some q) o → given (cluster.carries m time order) ≡ given_by (after_acts o.state (acts_to_end m.members)) q
+  gives_all : (q : ℕ) → IsNumber (Some q) o → given (cluster.carries m time (carry order)) ≡ given_by (after_acts o.state (acts_to_end m.members delivered)) q
   gives_all q number =
-      let P : Order → Type 0 = λ p. let a = asking m.members m.run (wait m time) p in a.refused ≡ None → given (cluster.carries m time p) ≡ given_by (after_acts a.state (acts_to_end m.members)) (number_in a.words) in
-      of_get P (cluster_gives_all m time h.bucket h.key h.knows) number.0 ∙ ap (given_by (after_acts o.state (acts_to_end m.members))) (ap number_in number.1)
+      let P : Order → Type 0 = λ p. let a = asking m.members m.run (wait m time) p in a.refused ≡ None → given (cluster.carries m time (carry p)) ≡ given_by (after_acts a.state (acts_to_end m.members delivered)) (number_in a.words) in
+      of_get P (cluster_gives_all m time h.bucket h.key h.knows) number.0 ∙ ap (given_by (after_acts o.state (acts_to_end m.members delivered))) (ap number_in number.1)
 
   -- and what it gives at some moment is a first part of that
-  gives_first : (q : ℕ) → IsNumber (Some q) o → (t : State) → IsLater q o.state t → IsLater q t (after_acts o.state (acts_to_end m.members)) → IsFirstOf (given_by t q) (given (cluster.carries m time order))
+  gives_first : (q : ℕ) → IsNumber (Some q) o → (t : State) → IsLater q o.state t → IsLater q t (after_acts o.state (acts_to_end m.members delivered)) → IsFirstOf (given_by t q) (given (cluster.carries m time (carry order)))
   gives_first q number t before later =
       let P : Order → Type 0 = λ p. let a = asking m.members m.run (wait m time) p in
-      a.refused ≡ None → IsLater (number_in a.words) a.state t → IsLater (number_in a.words) t (after_acts a.state (acts_to_end m.members)) → IsFirstOf (given_by t (number_in a.words)) (given (cluster.carries m time p)) in
-      let Q : ℕ → Type 0 = λ n. IsLater n o.state t → IsLater n t (after_acts o.state (acts_to_end m.members)) → IsFirstOf (given_by t n) (given (cluster.carries m time order)) in
+      a.refused ≡ None → IsLater (number_in a.words) a.state t → IsLater (number_in a.words) t (after_acts a.state (acts_to_end m.members delivered)) → IsFirstOf (given_by t (number_in a.words)) (given (cluster.carries m time (carry p))) in
+      let Q : ℕ → Type 0 = λ n. IsLater n o.state t → IsLater n t (after_acts o.state (acts_to_end m.members delivered)) → IsFirstOf (given_by t n) (given (cluster.carries m time (carry order))) in
       subst Q (ap number_in number.1) (of_get P (λ taken before later. cluster_gives_first m time h.bucket h.key h.knows taken t (before, later)) number.0) before later
 
   module _ (g : Getting) (number : IsNumber (Some g.request) o) (on : IsGetting c.world m.members g o.state so_far) where
@@ -145,16 +145,16 @@ module _ (c : Cluster) (m : Model) (time : ℕ) (order : Order) (so_far : Option
     first_now : IsFirstOf so_far (given_by now g.request)
     first_now = given_first c.world g.request g.told since o.state so_far on.given
 
-    first_of_all : IsFirstOf so_far (given (cluster.carries m time order))
+    first_of_all : IsFirstOf so_far (given (cluster.carries m time (carry order)))
     first_of_all =
         let before : IsLater g.request o.state now = record { acts = since; leave = on.given.leaves; after = refl } in
-        first_through so_far (given_by now g.request) (given (cluster.carries m time order)) first_now (gives_first g.request number now before (later_since m.members g on.few o.state g.request g.worked))
+        first_through so_far (given_by now g.request) (given (cluster.carries m time (carry order))) first_now (gives_first g.request number now before (later_since m.members g on.few o.state g.request g.worked))
 
-  first_in : (getting : Option Getting) → IsComing c.world m.members getting o so_far → IsFirstOf so_far (given (cluster.carries m time order))
-  first_in None k = subst (λ so. IsFirstOf so (given (cluster.carries m time order))) (sym k.1) tt
+  first_in : (getting : Option Getting) → IsComing c.world m.members getting o so_far → IsFirstOf so_far (given (cluster.carries m time (carry order)))
+  first_in None k = subst (λ so. IsFirstOf so (given (cluster.carries m time (carry order)))) (sym k.1) tt
   first_in (Some g) k = first_of_all g k.0 k.1
 
-  pub gives_first_part : IsFirstOf so_far (given (cluster.carries m time order))
+  pub gives_first_part : IsFirstOf so_far (given (cluster.carries m time (carry order)))
   gives_first_part = first_in c.getting h.coming
 
 -- ---- what it may give in the middle
@@ -168,12 +168,12 @@ record IsCut (to_ask members' : List Act) (since : List Act) : Type 0 where
   parts : to_ask ++ members' ≡ before ++ drain all_messages ∷ later
   done : before ++ drain count ∷ [] ≡ to_ask ++ since
 
-cut_since : (to_ask : List Act) (members : List ℕ) (left : ℕ) (worked : Bool) → IsCut to_ask (acts_to_end members) (if worked then acts_to_end members else drain (all_messages - left) ∷ [])
+cut_since : (to_ask : List Act) (members : List ℕ) (left : ℕ) (worked : Bool) → IsCut to_ask (acts_to_end members delivered) (if worked then acts_to_end members delivered else drain (all_messages - left) ∷ [])
 cut_since to_ask members left false = record { before = to_ask; count = all_messages - left; few = omega arith; later = round members ++ round members; parts = refl; done = refl }
 cut_since to_ask members left true =
     let first : List Act = drain all_messages ∷ round members ++ works members in
-    let last : List Act = drain all_messages ∷ [] in
-    let parts : to_ask ++ acts_to_end members ≡ (to_ask ++ first) ++ last = ap (λ rest. to_ask ++ drain all_messages ∷ rest) (sym (append_assoc (round members) (works members) last)) ∙ sym (append_assoc to_ask first last) in
+    let last : List Act = delivered in
+    let parts : to_ask ++ acts_to_end members delivered ≡ (to_ask ++ first) ++ last = ap (λ rest. to_ask ++ drain all_messages ∷ rest) (sym (append_assoc (round members) (works members) last)) ∙ sym (append_assoc to_ask first last) in
     record { before = to_ask ++ first; count = all_messages; few = omega arith; later = []; parts = parts; done = sym parts }
 
 module _ (c : Cluster) (m : Model) (time : ℕ) (order : Order) (so_far : Option Given) (h : IsOnItsWay c m time order so_far) (g : Getting) (number : IsNumber (Some g.request) (o c m time order so_far h)) (on : IsGetting c.world m.members g (o c m time order so_far h).state so_far) where
@@ -213,19 +213,19 @@ module _ (c : Cluster) (m : Model) (time : ℕ) (order : Order) (so_far : Option
     on_its_way : (so : Option Given) → IsGetting new m.members next at.state so → IsOnItsWay after m time order so
     on_its_way so x = record { bucket = h.bucket; key = h.key; is_get = h.is_get; lawful = h.lawful; fit = h.fit; ticked = h.ticked; members = h.members; knows = h.knows; coming = (still, x) }
 
-    next_so : (got : Got) → GivesOrEnds new m.members next at.state so_far got → Gives (IsOnItsWay after m time order) (CarriedOut cluster fits lacks (StandsFor after) m time order) (cluster.carries m time order) so_far got
+    next_so : (got : Got) → GivesOrEnds new m.members next at.state so_far got → Gives (IsOnItsWay after m time order) (CarriedOut cluster fits lacks (StandsFor after) m time (carry order)) (cluster.carries m time (carry order)) so_far got
     next_so (Found version meta) x = (x.0, on_its_way (Some (found_now version meta)) x.1)
     next_so (Piece bytes) x = (x.0, x.1, on_its_way (Some (with_piece x.0 bytes)) x.2)
     next_so (End end) x = (
-      came after m time order (with_given so_far end) h.ticked h.members (came_opened after m time order next.request (with_given so_far end) still h.lawful h.fit x.end_is x.does),
+      order_came after m time order (of_get c m time order so_far h IsWhole tt) next.request (with_given so_far end) still h.lawful h.fit h.ticked h.members (record { end_is = x.end_is; does = x.does }),
       subst (λ all. GaveAll so_far all end) (sym (gives_all c m time order so_far h next.request still)) x.all,
     )
 
-    next_gives : (got : Got) → GivesNext c.world new c.members g next got → Gives (IsOnItsWay after m time order) (CarriedOut cluster fits lacks (StandsFor after) m time order) (cluster.carries m time order) so_far got
+    next_gives : (got : Got) → GivesNext c.world new c.members g next got → Gives (IsOnItsWay after m time order) (CarriedOut cluster fits lacks (StandsFor after) m time (carry order)) (cluster.carries m time (carry order)) so_far got
     next_gives got f = next_so got (subst (λ ms. GivesNext c.world new ms g next got) h.members f at.state so_far on)
 
-  next_lacks : LacksGetting c.world c.members g → lacks m time order
-  next_lacks full = lacks_opened c m time order g.request number h.lawful h.fit (subst (λ ms. LacksGetting c.world ms g) h.members full at.state so_far on)
+  next_lacks : LacksGetting c.world c.members g → lacks m time (carry order)
+  next_lacks full = order_full c m time order (of_get c m time order so_far h IsWhole tt) g.request number h.lawful h.fit (subst (λ ms. LacksGetting c.world ms g) h.members full at.state so_far on)
 
 -- ---- of any cluster
 
@@ -242,15 +242,15 @@ module _ (c : Cluster) where
     has_got m time order so_far h = (m.members, (o c m time order so_far h).state, so_far, (coming_as (Some g) is m time order so_far h).1)
 
     next_some : (new : S3World) (next : Getting) (got : Got) → next.request ≡ g.request → GivesNext c.world new c.members g next got →
-        (m : Model) (time : ℕ) (order : Order) (so_far : Option Given) → On c m time order so_far → Gives (On (record c { world = new; getting = Some next }) m time order) (CarriedOut cluster fits lacks (StandsFor (record c { world = new; getting = Some next })) m time order) (cluster.carries m time order) so_far got
+        (m : Model) (time : ℕ) (order : Order) (so_far : Option Given) → On c m time order so_far → Gives (On (record c { world = new; getting = Some next }) m time order) (CarriedOut cluster fits lacks (StandsFor (record c { world = new; getting = Some next })) m time (carry order)) (cluster.carries m time (carry order)) so_far got
     next_some new next got same f m time order so_far h = let k = coming_as (Some g) is m time order so_far h in next_gives c m time order so_far h g k.0 k.1 new next same got f
 
     pub next_ok : (new : S3World) (next : Getting) (r : Result Got Memory) → next.request ≡ g.request → IfOk r (λ got. GivesNext c.world new c.members g next got) →
-        IfOk r (λ got. (m : Model) (time : ℕ) (order : Order) (so_far : Option Given) → On c m time order so_far → Gives (On (record c { world = new; getting = Some next }) m time order) (CarriedOut cluster fits lacks (StandsFor (record c { world = new; getting = Some next })) m time order) (cluster.carries m time order) so_far got)
+        IfOk r (λ got. (m : Model) (time : ℕ) (order : Order) (so_far : Option Given) → On c m time order so_far → Gives (On (record c { world = new; getting = Some next }) m time order) (CarriedOut cluster fits lacks (StandsFor (record c { world = new; getting = Some next })) m time (carry order)) (cluster.carries m time (carry order)) so_far got)
     next_ok new next (Ok got) same f = next_some new next got same f
     next_ok new next (Err e) same f = tt
 
-    pub next_full : LacksGetting c.world c.members g → (m : Model) (time : ℕ) (order : Order) (so_far : Option Given) → On c m time order so_far → lacks m time order
+    pub next_full : LacksGetting c.world c.members g → (m : Model) (time : ℕ) (order : Order) (so_far : Option Given) → On c m time order so_far → lacks m time (carry order)
     next_full full m time order so_far h = let k = coming_as (Some g) is m time order so_far h in next_lacks c m time order so_far h g k.0 k.1 full
 
 middle_in : (c : Cluster) (m : Model) (time : ℕ) (order : Order) (so_far : Option Given) (h : On c m time order so_far) (getting : Option Getting) → c.getting ≡ getting → (x : Given) → so_far ≡ Some x → GivesSoFar m time order x

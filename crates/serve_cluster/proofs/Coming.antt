@@ -11,7 +11,8 @@ use Rattle.store_model.specs.Run.{State}
 use Rattle.store_model.specs.Acts.{Act, after_acts, AreLawfulActs, ActsFit}
 use Rattle.s3_world.specs.declared.world.S3World.{S3World}
 use Rattle.s3_world.specs.Stands.{IsStore}
-use Rattle.serve_model.specs.Stores.{Given}
+use Rattle.serve_model.specs.declared.upload.Upload.{Upload}
+use Rattle.serve_model.specs.Stores.{Job, carry, Given}
 use Rattle.serve_model.specs.Clusters.{Cluster as Model, cluster, fits, lacks, ActLacksRoom}
 use Rattle.serve_model.specs.Serving.{HasState, CarriedOut}
 use Rattle.serve_changes.specs.Acts.{change_acts}
@@ -20,15 +21,17 @@ use Rattle.serve_cluster.specs.declared.change.Change.{Change}
 use Rattle.serve_cluster.specs.declared.changing.Changing.{Changing}
 use Rattle.serve_cluster.specs.declared.cluster.Cluster.{Cluster}
 use Rattle.serve_cluster.specs.Acting.{LacksRoom}
-use Rattle.serve_cluster.specs.Changes.{nodes_of, IsComputed, AreWithin, acts_with, DoesIn, IsChange, AreChanges, IsChanging, is_due, IsChangingGet}
+use Rattle.serve_cluster.specs.Changes.{nodes_of, IsComputed, AreWithin, acts_with, DoesIn, IsChange, AreChanges, IsChanging, is_due, IsChangingGet, IsChangingUpload}
 use Rattle.serve_loop.specs.declared.storage.Got.{Got}
 use Rattle.serve_loop.specs.declared.storage.Got.TheVariants as got
 use Rattle.serve_loop.specs.Gets as gets
 use Rattle.serve_loop.specs.Gets.{GoesOn, Gives, MayGive, with_given}
+use Rattle.serve_loop.specs.Uploads.{Takes, IsTaken}
 use Rattle.serve_cluster.specs.Giving.{IsOnItsWay}
+use Rattle.serve_cluster.specs.Uploads.{IsUploading}
 use Rattle.serve_cluster.specs.Standing.{StandsFor}
 use Rattle.serve_cluster.proofs.Making.{staged_after}
-use Rattle.serve_cluster.proofs.Unstaged.{order_leaves}
+use Rattle.serve_cluster.proofs.Unstaged.{job_leaves}
 
 -- ---- one change
 
@@ -78,27 +81,9 @@ due_none members [] [] k e h = refl
 due_none members [] (ch ∷ chs) k e h = absurd h
 due_none members (c ∷ cs) chs k e h = absurd (cc)
 
--- none is due
-pub not_due : (k : Model) (chs : List (ℕ × Later)) → is_due k chs ≡ false → (acts_due k chs ≡ []) × (with_change k chs ≡ record { cluster = k; to_come = chs })
-not_due k [] e = (refl, refl)
-not_due k (ch ∷ chs) e = (
-  ap (λ b. cond b (acts_in k.run ch.1) []) e,
-  ap (λ b. cond {A = Models} b (record { cluster = changed k ch.1; to_come = chs }) (record { cluster = k; to_come = ch ∷ chs })) e,
-)
-
-pub nothing_due : (code : Changing) (m : Models) → IsChanging code m → is_due m.cluster m.to_come ≡ false → ChangeFits m.cluster m.to_come × IsChanging code (with_change m.cluster m.to_come)
-nothing_due code m h e =
-    let n = not_due m.cluster m.to_come e in (
-      subst (λ as'. AreLawfulActs m.cluster.run as' × ActsFit m.cluster.run as') (sym n.0) (tt, tt),
-      subst (IsChanging code) (sym n.1) h,
-    )
-
 -- what is asked of the change of a cluster
 abbrev pub Changes : Cluster → Cluster → Change → Type 0
 Changes old new c = (m : Model) (ch : ℕ × Later) → StandsFor old m → IsChange m.members c ch → AreLawfulActs m.run (acts_in m.run ch.1) × ActsFit m.run (acts_in m.run ch.1) × StandsFor new (changed m ch.1)
-
-abbrev pub ChangeLacks : Cluster → Change → Type 0
-ChangeLacks old c = (m : Model) (ch : ℕ × Later) → StandsFor old m → IsChange m.members c ch → ActLacksRoom m.run (acts_in m.run ch.1)
 
 module _ (code : Cluster) (k : Model) (stands : StandsFor code k) (within : AreWithin k.run.world.roles) (x : Change) where
   made_at : (cs : List Change) (chs : List (ℕ × Later)) (rest : List Change) (new : Cluster) → AreChanges k.members cs chs → slice_get cs 0 ≡ Some x → rest ≡ remove cs 0 → Changes code new x → is_due k chs ≡ true →
@@ -115,14 +100,6 @@ module _ (code : Cluster) (k : Model) (stands : StandsFor code k) (within : AreW
         subst (λ b. IsChanging (record { cluster = new; to_come = rest }) (cond {A = Models} b (record { cluster = changed k ch.1; to_come = chs }) (record { cluster = k; to_come = ch ∷ chs }))) (sym due) made,
       )
 
-  lacks_at : (cs : List Change) (chs : List (ℕ × Later)) → AreChanges k.members cs chs → slice_get cs 0 ≡ Some x → ChangeLacks code x → is_due k chs ≡ true → ActLacksRoom k.run (acts_due k chs)
-  lacks_at [] chs h e f due = absurd (cc)
-  lacks_at (c ∷ cs) [] h e f due = absurd h
-  lacks_at (c ∷ cs) (ch ∷ chs) h e f due =
-      let is : c ≡ x = cc in
-      let one : IsChange k.members x ch = subst (λ y. IsChange k.members y ch) is h.0 in
-      subst (λ b. ActLacksRoom k.run (cond b (acts_in k.run ch.1) [])) (sym due) (f k ch stands one)
-
   computed_at : (cs : List Change) (chs : List (ℕ × Later)) → AreChanges k.members cs chs → slice_get cs 0 ≡ Some x → IsComputed x
   computed_at [] chs h e = absurd (cc)
   computed_at (c ∷ cs) [] h e = absurd h
@@ -132,9 +109,6 @@ module _ (code : Changing) (x : Change) (there : slice_get code.to_come 0 ≡ So
   pub due_made : (rest : List Change) (new : Cluster) → rest ≡ remove code.to_come 0 → Changes code.cluster new x → (m : Models) → IsChanging code m → is_due m.cluster m.to_come ≡ true →
       ChangeFits m.cluster m.to_come × IsChanging (record { cluster = new; to_come = rest }) (with_change m.cluster m.to_come)
   due_made rest new r f m h due = made_at code.cluster m.cluster h.cluster h.staged x code.to_come m.to_come rest new h.to_come there r f due
-
-  pub due_lacks : ChangeLacks code.cluster x → (m : Models) → IsChanging code m → is_due m.cluster m.to_come ≡ true → ActLacksRoom m.cluster.run (acts_due m.cluster m.to_come)
-  due_lacks f m h due = lacks_at code.cluster m.cluster h.cluster h.staged x code.to_come m.to_come h.to_come there f due
 
   pub due_computed : (m : Models) → IsChanging code m → IsComputed x
   due_computed m h = computed_at code.cluster m.cluster h.cluster h.staged x code.to_come m.to_come h.to_come there
@@ -157,10 +131,10 @@ as_many members [] (ch ∷ chs) h = absurd h
 as_many members (c ∷ cs) [] h = absurd h
 as_many members (c ∷ cs) (ch ∷ chs) h = ap suc (as_many (nodes_of c.shown.roles.list) cs chs h.1)
 
--- ---- one order, and the change after it
+-- ---- one job, and the change after it
 
-abbrev pub Carries : Cluster → Cluster → ℕ → Order → Option FlowEnd → Type 0
-Carries old new time order end = (s : Model) → StandsFor old s → CarriedOut cluster fits lacks (StandsFor new) s time order end
+abbrev pub Carries : Cluster → Cluster → ℕ → Job → Option FlowEnd → Type 0
+Carries old new time job end = (s : Model) → StandsFor old s → CarriedOut cluster fits lacks (StandsFor new) s time job end
 
 -- the change that is due is made
 abbrev pub MakesDue : Cluster → List Change → Changing → Type 0
@@ -170,37 +144,37 @@ MakesDue mid to_come new = (m : Models) → IsChanging (record { cluster = mid; 
 abbrev pub DueLacks : Cluster → List Change → Type 0
 DueLacks mid to_come = (m : Models) → IsChanging (record { cluster = mid; to_come = to_come }) m → ActLacksRoom m.cluster.run (acts_due m.cluster m.to_come)
 
-module _ (to_come : List Change) (mid : Cluster) (m : Models) (time : ℕ) (order : Order) (end : Option FlowEnd) (staged : AreWithin m.cluster.run.world.roles) (are : AreChanges m.cluster.members to_come m.to_come) (carried : CarriedOut cluster fits lacks (StandsFor mid) m.cluster time order end) where
+module _ (to_come : List Change) (mid : Cluster) (m : Models) (time : ℕ) (job : Job) (end : Option FlowEnd) (staged : AreWithin m.cluster.run.world.roles) (are : AreChanges m.cluster.members to_come m.to_come) (carried : CarriedOut cluster fits lacks (StandsFor mid) m.cluster time job end) where
   abbrev then : Models
-  then = record { cluster = (cluster.carries m.cluster time order).state; to_come = m.to_come }
+  then = record { cluster = (cluster.carries m.cluster time job).state; to_come = m.to_come }
 
   stands_mid : IsChanging (record { cluster = mid; to_come = to_come }) then
-  stands_mid = record { cluster = carried.stands; staged = subst AreWithin (sym (order_leaves m.cluster time order)) staged; to_come = are }
+  stands_mid = record { cluster = carried.stands; staged = subst AreWithin (sym (job_leaves m.cluster time job)) staged; to_come = are }
 
-  then_made : (new : Changing) → MakesDue mid to_come new → CarriedOut changing changing_fits changing_lacks (IsChanging new) m time order end
+  then_made : (new : Changing) → MakesDue mid to_come new → CarriedOut changing changing_fits changing_lacks (IsChanging new) m time job end
   then_made new f = let d = f then stands_mid in record { end_is = carried.end_is; fit = (carried.fit, d.0); stands = d.1 }
 
-  then_lacks : DueLacks mid to_come → changing_lacks m time order
+  then_lacks : DueLacks mid to_come → changing_lacks m time job
   then_lacks f = inr (carried.fit, f then stands_mid)
 
-module _ (old : Changing) (time : ℕ) (order : Order) (mid : Cluster) (end : Option FlowEnd) (carried : Carries old.cluster mid time order end) where
+module _ (old : Changing) (time : ℕ) (job : Job) (mid : Cluster) (end : Option FlowEnd) (carried : Carries old.cluster mid time job end) where
   pub mid_state : HasState (IsChanging old) → HasState (IsChanging (record { cluster = mid; to_come = old.to_come }))
-  mid_state h = let m = h.0 in (then old.to_come mid m time order end h.1.staged h.1.to_come (carried m.cluster h.1.cluster), stands_mid old.to_come mid m time order end h.1.staged h.1.to_come (carried m.cluster h.1.cluster))
+  mid_state h = let m = h.0 in (then old.to_come mid m time job end h.1.staged h.1.to_come (carried m.cluster h.1.cluster), stands_mid old.to_come mid m time job end h.1.staged h.1.to_come (carried m.cluster h.1.cluster))
 
-  pub carried_all : (new : Changing) → MakesDue mid old.to_come new → (m : Models) → IsChanging old m → CarriedOut changing changing_fits changing_lacks (IsChanging new) m time order end
-  carried_all new f m h = then_made old.to_come mid m time order end h.staged h.to_come (carried m.cluster h.cluster) new f
+  pub carried_all : (new : Changing) → MakesDue mid old.to_come new → (m : Models) → IsChanging old m → CarriedOut changing changing_fits changing_lacks (IsChanging new) m time job end
+  carried_all new f m h = then_made old.to_come mid m time job end h.staged h.to_come (carried m.cluster h.cluster) new f
 
-  pub carried_lacks : DueLacks mid old.to_come → (m : Models) → IsChanging old m → changing_lacks m time order
-  carried_lacks f m h = then_lacks old.to_come mid m time order end h.staged h.to_come (carried m.cluster h.cluster) f
+  pub carried_lacks : DueLacks mid old.to_come → (m : Models) → IsChanging old m → changing_lacks m time job
+  carried_lacks f m h = then_lacks old.to_come mid m time job end h.staged h.to_come (carried m.cluster h.cluster) f
 
-pub order_lacks : (old : Changing) (time : ℕ) (order : Order) → ((s : Model) → StandsFor old.cluster s → lacks s time order) → (m : Models) → IsChanging old m → changing_lacks m time order
-order_lacks old time order f m h = inl (f m.cluster h.cluster)
+pub job_lacks : (old : Changing) (time : ℕ) (job : Job) → ((s : Model) → StandsFor old.cluster s → lacks s time job) → (m : Models) → IsChanging old m → changing_lacks m time job
+job_lacks old time job f m h = inl (f m.cluster h.cluster)
 
 -- ---- a get, and the change after it
 
 -- what the cluster gives next, whatever is on its way in it
 abbrev pub Goes : Cluster → Cluster → Got → Type 0
-Goes old new got = (s : Model) (time : ℕ) (order : Order) (so_far : Option Given) → IsOnItsWay old s time order so_far → Gives (IsOnItsWay new s time order) (CarriedOut cluster fits lacks (StandsFor new) s time order) (cluster.carries s time order) so_far got
+Goes old new got = (s : Model) (time : ℕ) (order : Order) (so_far : Option Given) → IsOnItsWay old s time order so_far → Gives (IsOnItsWay new s time order) (CarriedOut cluster fits lacks (StandsFor new) s time (carry order)) (cluster.carries s time (carry order)) so_far got
 
 module _ (old : Changing) (mid : Cluster) where
   abbrev left : Changing
@@ -210,29 +184,50 @@ module _ (old : Changing) (mid : Cluster) where
   get_begins time order f m h = record { cluster = f m.cluster h.cluster; staged = h.staged; to_come = h.to_come }
 
   pub get_goes_on : (g : Got) → GoesOn g → Goes old.cluster mid g → (m : Models) (time : ℕ) (order : Order) (so_far : Option Given) → IsChangingGet old m time order so_far →
-      Gives (IsChangingGet left m time order) (CarriedOut changing changing_fits changing_lacks (IsChanging left) m time order) (changing.carries m time order) so_far g
+      Gives (IsChangingGet left m time order) (CarriedOut changing changing_fits changing_lacks (IsChanging left) m time (carry order)) (changing.carries m time (carry order)) so_far g
   get_goes_on (got.Found version meta) on f m time order so_far h = let x = f m.cluster time order so_far h.cluster in (x.0, record { cluster = x.1; staged = h.staged; to_come = h.to_come })
   get_goes_on (got.Piece bytes) on f m time order so_far h = let x = f m.cluster time order so_far h.cluster in (x.0, x.1, record { cluster = x.2; staged = h.staged; to_come = h.to_come })
   get_goes_on (got.End end) on f m time order so_far h = absurd on
 
   module _ (end : Option FlowEnd) (f : Goes old.cluster mid (got.End end)) where
     pub get_mid : gets.IsOnItsWay (IsChangingGet old) → HasState (IsChanging left)
-    get_mid h = let x = f h.0.cluster h.1 h.2 h.3 h.4.cluster in (then old.to_come mid h.0 h.1 h.2 (with_given h.3 end) h.4.staged h.4.to_come x.0, stands_mid old.to_come mid h.0 h.1 h.2 (with_given h.3 end) h.4.staged h.4.to_come x.0)
+    get_mid h = let x = f h.0.cluster h.1 h.2 h.3 h.4.cluster in (then old.to_come mid h.0 h.1 (carry h.2) (with_given h.3 end) h.4.staged h.4.to_come x.0, stands_mid old.to_come mid h.0 h.1 (carry h.2) (with_given h.3 end) h.4.staged h.4.to_come x.0)
 
     pub get_ends : (new : Changing) → MakesDue mid old.to_come new → (m : Models) (time : ℕ) (order : Order) (so_far : Option Given) → IsChangingGet old m time order so_far →
-        Gives (IsChangingGet new m time order) (CarriedOut changing changing_fits changing_lacks (IsChanging new) m time order) (changing.carries m time order) so_far (got.End end)
+        Gives (IsChangingGet new m time order) (CarriedOut changing changing_fits changing_lacks (IsChanging new) m time (carry order)) (changing.carries m time (carry order)) so_far (got.End end)
     get_ends new made m time order so_far h =
         let x = f m.cluster time order so_far h.cluster in
-        (then_made old.to_come mid m time order (with_given so_far end) h.staged h.to_come x.0 new made, x.1)
+        (then_made old.to_come mid m time (carry order) (with_given so_far end) h.staged h.to_come x.0 new made, x.1)
 
-    pub get_lacks : DueLacks mid old.to_come → (m : Models) (time : ℕ) (order : Order) (so_far : Option Given) → IsChangingGet old m time order so_far → changing_lacks m time order
+    pub get_lacks : DueLacks mid old.to_come → (m : Models) (time : ℕ) (order : Order) (so_far : Option Given) → IsChangingGet old m time order so_far → changing_lacks m time (carry order)
     get_lacks full m time order so_far h =
         let x = f m.cluster time order so_far h.cluster in
-        then_lacks old.to_come mid m time order (with_given so_far end) h.staged h.to_come x.0 full
+        then_lacks old.to_come mid m time (carry order) (with_given so_far end) h.staged h.to_come x.0 full
 
 pub get_may : (m : Models) (time : ℕ) (order : Order) (so_far : Option Given) → MayGive cluster m.cluster time order so_far → MayGive changing m time order so_far
 get_may m time order None h = tt
 get_may m time order (Some g) h = h
 
-pub get_order_lacks : (old : Changing) → ((s : Model) (time : ℕ) (order : Order) (so_far : Option Given) → IsOnItsWay old.cluster s time order so_far → lacks s time order) → (m : Models) (time : ℕ) (order : Order) (so_far : Option Given) → IsChangingGet old m time order so_far → changing_lacks m time order
+pub get_order_lacks : (old : Changing) → ((s : Model) (time : ℕ) (order : Order) (so_far : Option Given) → IsOnItsWay old.cluster s time order so_far → lacks s time (carry order)) → (m : Models) (time : ℕ) (order : Order) (so_far : Option Given) → IsChangingGet old m time order so_far → changing_lacks m time (carry order)
 get_order_lacks old f m time order so_far h = inl (f m.cluster time order so_far h.cluster)
+
+-- ---- an upload, and the change after it
+
+pub upload_taken : (old : Changing) (need : Option ℕ) → IsTaken (IsChangingUpload old) need → IsTaken (IsUploading old.cluster) need
+upload_taken old need h = (h.0.cluster, h.1, h.2, h.3, h.4.cluster)
+
+module _ (old : Changing) (mid : Cluster) where
+  pub upload_goes : (m : Models) (time : ℕ) (u : Upload) (came : List ℕ) (need : Option ℕ) → AreWithin m.cluster.run.world.roles → AreChanges m.cluster.members old.to_come m.to_come → Takes (IsUploading mid m.cluster time) u came need →
+      Takes (IsChangingUpload (left old mid) m time) u came need
+  upload_goes m time u came need staged are x = (record { cluster = x.0; staged = staged; to_come = are }, x.1)
+
+  -- a job ended it
+  module _ (m : Models) (time : ℕ) (u : Upload) (came : List ℕ) (need : Option ℕ) (h : IsChangingUpload old m time u came need) (job : Job) (end : Option FlowEnd) (carried : CarriedOut cluster fits lacks (StandsFor mid) m.cluster time job end) where
+    pub upload_mid : HasState (IsChanging (left old mid))
+    upload_mid = (then old.to_come mid m time job end h.staged h.to_come carried, stands_mid old.to_come mid m time job end h.staged h.to_come carried)
+
+    pub upload_ends : (new : Changing) → MakesDue mid old.to_come new → CarriedOut changing changing_fits changing_lacks (IsChanging new) m time job end
+    upload_ends new made = then_made old.to_come mid m time job end h.staged h.to_come carried new made
+
+    pub upload_lacks : DueLacks mid old.to_come → changing_lacks m time job
+    upload_lacks full = then_lacks old.to_come mid m time job end h.staged h.to_come carried full

@@ -13,7 +13,7 @@ use Rattle.flow_model.specs.declared.order.Order.TheVariants.{Get}
 use Rattle.flow_model.specs.declared.flow.Name.{Name}
 use Rattle.flow_model.specs.declared.flow.Flow.{Flow}
 use Rattle.flow_model.specs.declared.flow.FlowEnd.{FlowEnd}
-use Rattle.flow_model.specs.declared.flow.FlowEnd.TheVariants.{Stored, Found, Nothing, Listed, Superseded}
+use Rattle.flow_model.specs.declared.flow.FlowEnd.TheVariants.{Stored, Found, Nothing, Listed, Superseded, Aborted}
 use Rattle.store_model.specs.Run.{State, Asked, Outcome, opened, drains, silent}
 use Rattle.store_model.specs.Acts.{Act, drain, acted, after_acts, end_of, all_messages}
 use Rattle.store_model.specs.Gets.{found_by, gathered, gathered_at, body_of, stage_of, is_get}
@@ -24,7 +24,7 @@ use Rattle.s3_world.specs.Reads.{of, HasAll, with_first}
 use Rattle.s3_world.specs.Stands.{IsStore, IsGiving, Overflows}
 use Rattle.s3_world.proofs.Storing.{as_store}
 use Rattle.serve_model.specs.Stores.{Given, IsFirstOf}
-use Rattle.serve_model.specs.Clusters.{round, acts_to_end, acts_past_end, acts_opened, given_by, ActLacksRoom}
+use Rattle.serve_model.specs.Clusters.{delivered, round, acts_to_end, acts_past_end, acts_opened, given_by, ActLacksRoom}
 use Rattle.get_laws.specs.OnTheWay.{LeavesEnd, IsLater}
 use Rattle.get_laws.proofs.Acting.{GivesOn, stage_in, later_gives}
 use Rattle.get_laws.proofs.Getting.{Seen, IsAt}
@@ -137,7 +137,7 @@ module _ (old new : S3World) (q : ℕ) (told : Bool) (s : State) (so_far : Optio
       all_after new q told s so_far (left - 1) (omega (arith, few)) (ap (λ (u : State). undelivered u.world) sum ∙ none) (one_delivered keeps)
 
   -- the next delivery has no room, so the drain hasn't
-  pub drain_full : Overflows old (λ t. acted t (drain 1)) → ActLacksRoom s (drain all_messages ∷ [])
+  pub drain_full : Overflows old (λ t. acted t (drain 1)) → ActLacksRoom s delivered
   drain_full full =
       let t : State = (drains (all_messages - left) s).state in
       lacks_act s (drain all_messages) tt (λ fits.
@@ -171,6 +171,7 @@ given_whole node name None (Some Nothing) seen g rest at all e = ap (λ bytes. S
 given_whole node name None (Some (Superseded id)) seen g rest at all e = ap (λ bytes. Some (record g { bytes = bytes })) (no_bytes g.bytes rest e)
 given_whole node name None (Some (Stored version meta)) seen g rest at all e = absurd at
 given_whole node name None (Some (Listed rows)) seen g rest at all e = absurd at
+given_whole node name None (Some Aborted) seen g rest at all e = absurd at
 
 module _ (old : S3World) (q : ℕ) (acts : List Act) (s : State) (so_far : Option Given) where
   pub hands_none : ((t : State) (bytes : List ℕ) → IsGiving old t q bytes → HasAll t q bytes) → HasGiven old q true acts s so_far → GaveAll so_far (given_by (after_acts s acts) q) (end_of (after_acts s acts).ends q)
@@ -196,6 +197,7 @@ first_is so_far (Some (Stored version meta)) = refl
 first_is so_far (Some Nothing) = refl
 first_is so_far (Some (Listed rows)) = refl
 first_is so_far (Some (Superseded id)) = refl
+first_is so_far (Some Aborted) = refl
 
 gave_before : (so_far all : Option Given) (end e : Option FlowEnd) → with_first (bytes_of so_far) end ≡ e → GaveAll so_far all e → GaveAll so_far all end
 gave_before so_far all None e is h = subst (GaveAll so_far all) (sym is) h
@@ -204,25 +206,26 @@ gave_before so_far all (Some (Stored version meta)) e is h = subst (GaveAll so_f
 gave_before so_far all (Some Nothing) e is h = subst (GaveAll so_far all) (sym is) h
 gave_before so_far all (Some (Listed rows)) e is h = subst (GaveAll so_far all) (sym is) h
 gave_before so_far all (Some (Superseded id)) e is h = subst (GaveAll so_far all) (sym is) h
+gave_before so_far all (Some Aborted) e is h = subst (GaveAll so_far all) (sym is) h
 
 module _ (old : S3World) (members : List ℕ) (q : ℕ) (told : Bool) (s : State) (so_far : Option Given) where
   -- all messages were delivered: the rounds of work follow
-  pub works_on : (new : S3World) → KeepsActs old new (round members ++ round members) → HasGiven old q told (drain all_messages ∷ []) s so_far → HasGiven new q told (acts_to_end members) s so_far
-  works_on new keeps h = given_more old q told (drain all_messages ∷ []) s so_far h new (round members ++ round members) (acts_leave q members).1 keeps
+  pub works_on : (new : S3World) → KeepsActs old new (round members ++ round members) → HasGiven old q told delivered s so_far → HasGiven new q told (acts_to_end members delivered) s so_far
+  works_on new keeps h = given_more old q told delivered s so_far h new (round members ++ round members) (acts_leave q members).1 keeps
 
-  pub works_full : LacksRoom old (λ _. round members ++ round members) → HasGiven old q told (drain all_messages ∷ []) s so_far → ActLacksRoom s (acts_opened members s q)
+  pub works_full : LacksRoom old (λ _. round members ++ round members) → HasGiven old q told delivered s so_far → ActLacksRoom s (acts_opened members s q delivered)
   works_full full h =
-      let t : State = after_acts s (drain all_messages ∷ []) in
+      let t : State = after_acts s delivered in
       let given = of q (bytes_of so_far) in
-      let past : List Act = acts_past_end q (end_of (after_acts s (acts_to_end members)).ends q) in
-      lacks_first s (acts_to_end members) past (lacks_after s (drain all_messages ∷ []) (round members ++ round members) old (led_store given old s (drain all_messages ∷ []) h.led) (full t (as_store old t h.led.stands)))
+      let past : List Act = acts_past_end q (end_of (after_acts s (acts_to_end members delivered)).ends q) in
+      lacks_first s (acts_to_end members delivered) past (lacks_after s delivered (round members ++ round members) old (led_store given old s delivered h.led) (full t (as_store old t h.led.stands)))
 
-  pub drains_full : ActLacksRoom s (drain all_messages ∷ []) → ActLacksRoom s (acts_opened members s q)
-  drains_full full = lacks_first s (drain all_messages ∷ []) ((round members ++ round members) ++ acts_past_end q (end_of (after_acts s (acts_to_end members)).ends q)) full
+  pub drains_full : ActLacksRoom s delivered → ActLacksRoom s (acts_opened members s q delivered)
+  drains_full full = lacks_first s delivered ((round members ++ round members) ++ acts_past_end q (end_of (after_acts s (acts_to_end members delivered)).ends q)) full
 
-  module _ (h : HasGiven old q told (acts_to_end members) s so_far) where
+  module _ (h : HasGiven old q told (acts_to_end members delivered) s so_far) where
     abbrev at_end : State
-    at_end = after_acts s (acts_to_end members)
+    at_end = after_acts s (acts_to_end members delivered)
 
     pub ended : (new : S3World) (end : Option FlowEnd) → GaveAll so_far (given_by at_end q) (end_of at_end.ends q) → TakesEnd old new q end → Ended new members q s so_far end
     ended new end all takes =
@@ -232,16 +235,16 @@ module _ (old : S3World) (members : List ℕ) (q : ℕ) (told : Bool) (s : State
           end_is = first_is so_far end ∙ x.end_is;
           all = gave_before so_far (given_by at_end q) end (end_of at_end.ends q) x.end_is all;
           does = record {
-            lawful = acts_lawful s (acts_to_end members) past h.led.lawful x.does.lawful;
-            fit = acts_fit s (acts_to_end members) past h.led.fit x.does.fit;
-            stands = subst (λ t. IsStore new t) (sym (acts_after s (acts_to_end members) past)) x.does.stands;
+            lawful = acts_lawful s (acts_to_end members delivered) past h.led.lawful x.does.lawful;
+            fit = acts_fit s (acts_to_end members delivered) past h.led.fit x.does.fit;
+            stands = subst (λ t. IsStore new t) (sym (acts_after s (acts_to_end members delivered) past)) x.does.stands;
           };
         }
 
-    pub end_full : LacksRoom old (λ t. acts_past_end q (end_of t.ends q)) → ActLacksRoom s (acts_opened members s q)
+    pub end_full : LacksRoom old (λ t. acts_past_end q (end_of t.ends q)) → ActLacksRoom s (acts_opened members s q delivered)
     end_full full =
         let given = of q (bytes_of so_far) in
-        lacks_after s (acts_to_end members) (acts_past_end q (end_of at_end.ends q)) old (led_store given old s (acts_to_end members) h.led) (full at_end (as_store old at_end h.led.stands))
+        lacks_after s (acts_to_end members delivered) (acts_past_end q (end_of at_end.ends q)) old (led_store given old s (acts_to_end members delivered) h.led) (full at_end (as_store old at_end h.led.stands))
 
 -- ---- what is given, however it is said
 

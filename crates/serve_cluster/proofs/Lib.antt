@@ -5,6 +5,7 @@ pub mod Draining
 pub mod Giving
 pub mod Nexts
 pub mod Begun
+pub mod Uploading
 pub mod Staging
 pub mod Unstaged
 pub mod Going

@@ -9,7 +9,7 @@ use Rattle.s3_world.specs.Reads.{HasAll}
 use Rattle.s3_world.specs.Stands.{IsGiving, HasStore, Overflows}
 use Rattle.s3_world.proofs.Storing.{as_store}
 use Rattle.serve_model.specs.Stores.{Given}
-use Rattle.serve_model.specs.Clusters.{round, acts_to_end, acts_past_end, acts_opened, given_by, ActLacksRoom}
+use Rattle.serve_model.specs.Clusters.{delivered as all_delivered, round, acts_to_end, acts_past_end, acts_opened, given_by, ActLacksRoom}
 use Rattle.serve_loop.specs.declared.storage.Got.{Got}
 use Rattle.serve_loop.specs.declared.storage.Got.TheVariants.{Found, Piece, End}
 use Rattle.serve_loop.specs.Gets.{GaveAll, GoesOn}
@@ -24,7 +24,7 @@ given_store : (world : S3World) (g : Getting) (acts : List Act) (s : State) (so_
 given_store world g acts s so_far h = (after_acts s acts, as_store world (after_acts s acts) h.led.stands)
 
 pub drained_store : (world : S3World) (g : Getting) → HasDrainedGet world g → HasStore world
-drained_store world g h = given_store world g (drain all_messages ∷ []) h.0 h.1 h.2
+drained_store world g h = given_store world g all_delivered h.0 h.1 h.2
 
 pub handed_store : (old mid : S3World) (g h : Getting) → HandsOut old mid g h None → HasGot old g → HasStore mid
 handed_store old mid g h hands x = let acts = acts_since x.0 g in given_store mid h acts x.1 x.2 (hands acts x.1 x.2 x.3.given).0
@@ -60,13 +60,13 @@ module _ (old mid : S3World) (g h : Getting) (same : IsSame g h) where
 
   module _ (worked : g.worked ≡ true) (hands : HandsOut old mid g h None) where
     all_given : (members : List ℕ) (s : State) (so_far : Option Given) → IsGetting old members g s so_far →
-        HasGiven mid h.request h.told (acts_to_end members) s so_far × (let t = after_acts s (acts_to_end members) in GaveAll so_far (given_by t h.request) (end_of t.ends h.request))
+        HasGiven mid h.request h.told (acts_to_end members all_delivered) s so_far × (let t = after_acts s (acts_to_end members all_delivered) in GaveAll so_far (given_by t h.request) (end_of t.ends h.request))
     all_given members s so_far on =
         let x = hands (acts_since members g) s so_far on.given in
-        let acts : acts_since members g ≡ acts_to_end members = ap (λ b. if b then acts_to_end members else drain (all_messages - g.left) ∷ []) worked in
+        let acts : acts_since members g ≡ acts_to_end members all_delivered = ap (λ b. if b then acts_to_end members all_delivered else drain (all_messages - g.left) ∷ []) worked in
         let number : g.request ≡ h.request = sym (ap (λ (k : Getting). k.request) same) in
         let P : List Act → ℕ → Type 0 = λ as' q. let t = after_acts s as' in GaveAll so_far (given_by t q) (end_of t.ends q) in
-        (subst (λ as'. HasGiven mid h.request h.told as' s so_far) acts x.0, subst (P (acts_to_end members)) number (subst (λ as'. P as' g.request) acts x.1))
+        (subst (λ as'. HasGiven mid h.request h.told as' s so_far) acts x.0, subst (P (acts_to_end members all_delivered)) number (subst (λ as'. P as' g.request) acts x.1))
 
     pub ends_so : (new : S3World) (end : Option FlowEnd) → TakesEnd mid new h.request end → (members : List ℕ) → GivesNext old new members g h (End end)
     ends_so new end takes members = λ s so_far on.
@@ -77,7 +77,7 @@ module _ (old mid : S3World) (g h : Getting) (same : IsSame g h) where
     end_lacks full members = λ s so_far on.
         let x = all_given members s so_far on in
         let number : h.request ≡ g.request = ap (λ (k : Getting). k.request) same in
-        subst (λ q. ActLacksRoom s (acts_opened members s q)) number (end_full mid members h.request h.told s so_far x.0 full)
+        subst (λ q. ActLacksRoom s (acts_opened members s q all_delivered)) number (end_full mid members h.request h.told s so_far x.0 full)
 
 -- ---- counted
 
@@ -91,7 +91,7 @@ module _ (world : S3World) (g : Getting) (left : ℕ) (worked : g.worked ≡ tru
 
   recount : (members : List ℕ) (s : State) (so_far : Option Given) → IsGetting world members g s so_far → IsGetting world members counted s so_far
   recount members s so_far on =
-      let acts : acts_since members g ≡ acts_since members counted = ap (λ b. if b then acts_to_end members else drain (all_messages - g.left) ∷ []) worked ∙ sym (ap (λ b. if b then acts_to_end members else drain (all_messages - left) ∷ []) worked) in
+      let acts : acts_since members g ≡ acts_since members counted = ap (λ b. if b then acts_to_end members all_delivered else drain (all_messages - g.left) ∷ []) worked ∙ sym (ap (λ b. if b then acts_to_end members all_delivered else drain (all_messages - left) ∷ []) worked) in
       let few = on.few in
       record { few = omega (arith, few, low); given = subst (λ as'. HasGiven world g.request g.told as' s so_far) acts on.given }
 
@@ -122,14 +122,14 @@ module _ (old mid : S3World) (members : List ℕ) (g : Getting) (keeps : KeepsAc
   worked_next new h (Ok got) f = λ s so_far x. f members s so_far (worked_get s so_far x)
   worked_next new h (Err e) f = tt
 
-  pub worked_lacks : ((ms : List ℕ) → LacksGetting mid ms past) → (s : State) (so_far : Option Given) → IsDrainedGet old g s so_far → ActLacksRoom s (acts_opened members s g.request)
+  pub worked_lacks : ((ms : List ℕ) → LacksGetting mid ms past) → (s : State) (so_far : Option Given) → IsDrainedGet old g s so_far → ActLacksRoom s (acts_opened members s g.request all_delivered)
   worked_lacks full s so_far x = full members s so_far (worked_get s so_far x)
 
 pub worked_fewer : (r : Result Got Memory) (h : Getting) → IfOk r (λ got. GoesOn got → left_of h < (2 ^ 64 - 1) + 0) → IfOk r (λ got. GoesOn got → left_of h ≤ all_messages)
 worked_fewer (Ok got) h f = λ on. (let low = f on in let e = all_of_them in omega (arith, low, e))
 worked_fewer (Err e) h f = tt
 
-pub work_lacks : (old : S3World) (members : List ℕ) (g : Getting) → LacksRoom old (λ _. round members ++ round members) → (s : State) (so_far : Option Given) → IsDrainedGet old g s so_far → ActLacksRoom s (acts_opened members s g.request)
+pub work_lacks : (old : S3World) (members : List ℕ) (g : Getting) → LacksRoom old (λ _. round members ++ round members) → (s : State) (so_far : Option Given) → IsDrainedGet old g s so_far → ActLacksRoom s (acts_opened members s g.request all_delivered)
 work_lacks old members g full s so_far h = works_full old members g.request g.told s so_far full h
 
 -- ---- its deliveries
@@ -153,7 +153,7 @@ pub record Delivering (first now : S3World) (f g : Getting) : Type 0 where
 
 module _ (world : S3World) (f : Getting) (early : f.worked ≡ false) where
   drained_so : (members : List ℕ) → acts_since members f ≡ drain (all_messages - f.left) ∷ []
-  drained_so members = ap (λ b. if b then acts_to_end members else drain (all_messages - f.left) ∷ []) early
+  drained_so members = ap (λ b. if b then acts_to_end members all_delivered else drain (all_messages - f.left) ∷ []) early
 
   of_get : (members : List ℕ) (s : State) (so_far : Option Given) → IsGetting world members f s so_far → After world f s so_far
   of_get members s so_far on = subst (λ as'. HasGiven world f.request f.told as' s so_far) (drained_so members) on.given

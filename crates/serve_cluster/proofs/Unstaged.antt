@@ -1,5 +1,5 @@
 -- What is staged stays so through acts that stage nothing.
-use Rattle.std.specs.Prelude.{◌≡◌, ℕ, zero, suc, Bool, true, false, cond, not, ◌&&◌, leb, Option, Some, None, ⊤, List, [], ◌∷◌, length, refl}
+use Rattle.std.specs.Prelude.{◌≡◌, ℕ, zero, suc, Bool, true, false, cond, not, ◌&&◌, ◌||◌, ◌==◌, nat_lt, if◌then◌else◌, leb, Option, Some, None, ⊤, List, [], ◌∷◌, ◌++◌, length, take, drop, refl}
 use Rattle.std.specs.List.{AllByRecursion}
 use Rattle.std.proofs.Common.{◌∙◌}
 use Rattle.crdt_core.proofs.Each.{all_append}
@@ -29,16 +29,19 @@ use Rattle.cluster_machine.specs.Step.{Effects, most_versions, given, none_given
 use Rattle.cluster_machine.specs.Trio.{trio, stage_trio}
 use Rattle.cluster_machine.specs.World.{Sent, Mark, Request, numbered, clock, undelivered, is_member_at}
 use Rattle.flow_model.specs.declared.order.Order.{Order}
+use Rattle.flow_model.specs.declared.order.Order.TheVariants as order
 use Rattle.flow_model.specs.declared.flow.Flow.{Flow}
 use Rattle.flow_model.specs.declared.flow.FlowEnd.{FlowEnd}
 use Rattle.flow_model.specs.declared.flow.FlowStep.{FlowStep}
-use Rattle.flow_model.specs.declared.flow.FlowStep.TheVariants.{More, Wait, End}
+use Rattle.flow_model.specs.declared.flow.FlowStep.TheVariants.{More, Need, Wait, End}
 use Rattle.flow_model.specs.Flow.{started}
 use Rattle.flow_model.specs.Next as flow
+use Rattle.flow_model.specs.Streams as stream
 use Rattle.store_model.specs.Orders.{buckets_of}
-use Rattle.store_model.specs.Run.{World, Asked, Draw, State, Outcome, silent, plainly, effect, doing, takes, draws_of, follows, follow, goes_on, delivers, then_drains, drains, opened, begins, are_buckets}
-use Rattle.store_model.specs.Acts.{Act, moves, asks, drain, forgets, takes as takes_end, acted, after_acts, all_messages}
-use Rattle.serve_model.specs.Clusters.{Cluster, works, round, acts_to_end, expiry, acts_past_end, acts_then, end_in, acts_at}
+use Rattle.store_model.specs.Run.{World, Asked, Draw, State, Outcome, silent, plainly, effect, doing, takes, draws_of, follows, follow, goes_on, delivers, then_drains, drains, opened, begins, are_buckets, hears, heard_in, heard, fills_at, need_at}
+use Rattle.store_model.specs.Acts.{Act, moves, asks, drain, forgets, takes as takes_end, feeds, keeps as keeps_upload, gives_up, acted, after_acts, all_messages}
+use Rattle.serve_model.specs.Stores.{Job, carry, keep, leave}
+use Rattle.serve_model.specs.Clusters.{Cluster, works, delivered, round, fed_block, fed_acts, decided, received_acts, streamed, order_acts, carried_acts, acts_to_end, expiry, acts_past_end, acts_then, end_in, acts_at}
 
 abbrev Made : Type 0
 Made = Effects AnyRow Layout Applied Cut
@@ -140,6 +143,7 @@ Leaves s t = t.world.roles ≡ s.world.roles
 
 takes_leave : (s : State) (q : ℕ) (m : Asked) (draws : List Draw) (does : FlowStep) → Leaves s (takes s q m draws does).state
 takes_leave s q m draws (More f phase) = step_leaves s.world (Begin q phase) (none_given VersionLimit) tt
+takes_leave s q m draws (Need f wanted) = refl
 takes_leave s q m draws (Wait f) = refl
 takes_leave s q m draws (End end) = step_leaves s.world (Close q) (none_given VersionLimit) tt
 
@@ -183,6 +187,18 @@ begins_leave : (s : State) (n : ℕ) (order : Order) → Leaves s (begins s n or
 begins_leave s n order =
     by_leaves s (is_member_at layouts s.world n) _ _ (by_leaves s (are_buckets s.buckets (buckets_of order)) (opened s n order) _ (opened_leaves s n order) refl) refl
 
+next_leaves : (s : State) (q : ℕ) (a : Asked) (next : stream.Step) → Leaves s (hears s q a next).state
+next_leaves s q a None = refl
+next_leaves s q a (Some next) = step_leaves s.world (Begin q next.1) (none_given VersionLimit) tt
+
+flow_leaves : (s : State) (q : ℕ) (says : Flow → stream.Step) (a : Asked) (f : Option Flow) → Leaves s (heard_in s q says a f).state
+flow_leaves s q says a None = refl
+flow_leaves s q says a (Some f) = next_leaves s q a (says f)
+
+heard_leaves : (s : State) (q : ℕ) (says : Flow → stream.Step) (a : Option Asked) → Leaves s (heard s q says a).state
+heard_leaves s q says None = refl
+heard_leaves s q says (Some a) = flow_leaves s q says a a.flow
+
 -- ---- acts
 
 -- an act that stages no role
@@ -192,6 +208,9 @@ IsUnstaging (asks n order) = ⊤
 IsUnstaging (drain n) = ⊤
 IsUnstaging forgets = ⊤
 IsUnstaging (takes_end q) = ⊤
+IsUnstaging (feeds q bytes) = ⊤
+IsUnstaging (keeps_upload q) = ⊤
+IsUnstaging (gives_up q) = ⊤
 IsUnstaging _ = ⊥
 
 act_leaves : (s : State) (a : Act) → IsUnstaging a → Leaves s (acted s a).state
@@ -200,13 +219,16 @@ act_leaves s (asks n order) h = begins_leave s n order
 act_leaves s (drain n) h = drains_leave n s
 act_leaves s forgets h = refl
 act_leaves s (takes_end q) h = refl
+act_leaves s (feeds q bytes) h = heard_leaves s q (λ f. stream.fed f bytes) (numbered s.asked q)
+act_leaves s (keeps_upload q) h = heard_leaves (record s { draws = fills_at s q (numbered s.asked q) ++ s.draws }) q stream.finished (numbered s.asked q)
+act_leaves s (gives_up q) h = heard_leaves s q stream.given_up (numbered s.asked q)
 act_leaves s _ h = elim h [ ]
 
 pub acts_leave : (as' : List Act) (s : State) → AllByRecursion IsUnstaging as' → Leaves s (after_acts s as')
 acts_leave [] s all = refl
 acts_leave (a ∷ as') s all = acts_leave as' (acted s a).state all.1 ∙ act_leaves s a all.0
 
--- ---- the acts of an order
+-- ---- the acts of a job
 
 abbrev pub AllUnstaging : List Act → Type 0
 AllUnstaging as' = AllByRecursion IsUnstaging as'
@@ -218,18 +240,51 @@ works_unstaging (n ∷ ns) = (tt, works_unstaging ns)
 round_unstaging : (members : List ℕ) → AllUnstaging (round members)
 round_unstaging members = all_append IsUnstaging (works members) (drain all_messages ∷ []) (works_unstaging members) (tt, tt)
 
+fed_unstaging : (n : ℕ) (s : State) (q : ℕ) (bytes : List ℕ) → AllUnstaging (fed_acts n s q bytes)
+fed_unstaging zero s q bytes = tt
+fed_unstaging (suc more) s q bytes = elim (need_at s q) as (λ o. AllUnstaging (elim o as (λ o. List Act) [
+  | None ↦ []
+  | Some size ↦ if size == 0 || nat_lt (length bytes) size then [] else fed_block q (take size bytes) ++ fed_acts more (after_acts s (fed_block q (take size bytes))) q (drop size bytes)
+])) [
+  | None ↦ tt
+  | Some size ↦ elim (size == 0 || nat_lt (length bytes) size) as (λ b. AllUnstaging (if b then [] else fed_block q (take size bytes) ++ fed_acts more (after_acts s (fed_block q (take size bytes))) q (drop size bytes))) [
+    | true ↦ tt
+    | false ↦ (tt, (tt, fed_unstaging more (after_acts s (fed_block q (take size bytes))) q (drop size bytes)))
+  ]
+]
+
+decided_unstaging : (keeping : Bool) (q : ℕ) (need : Option ℕ) → AllUnstaging (decided keeping q need)
+decided_unstaging keeping q None = tt
+decided_unstaging keeping q (Some size) = elim (keeping && size == 0) as (λ b. AllUnstaging (if b then keeps_upload q ∷ delivered else gives_up q ∷ delivered)) [ true ↦ (tt, (tt, tt)) | false ↦ (tt, (tt, tt)) ]
+
+streamed_unstaging : (keeping : Bool) (s : State) (q : ℕ) (came : List ℕ) → AllUnstaging (streamed keeping s q came)
+unfolding streamed
+streamed_unstaging keeping s q came =
+    let received : List Act = received_acts s q came in
+    let need : Option ℕ = need_at (after_acts s received) q in
+    all_append IsUnstaging received (decided keeping q need) (tt, fed_unstaging (length came) (after_acts s delivered) q came) (decided_unstaging keeping q need)
+
+order_unstaging : (s : State) (q : ℕ) (o : Order) → AllUnstaging (order_acts s q o)
+order_unstaging s q (order.Stream bucket key announced headers) = streamed_unstaging false s q []
+order_unstaging s q _ = (tt, tt)
+
+carried_unstaging : (s : State) (q : ℕ) (job : Job) → AllUnstaging (carried_acts s q job)
+carried_unstaging s q (carry o) = order_unstaging s q o
+carried_unstaging s q (keep u came) = streamed_unstaging (length came == u.length) s q came
+carried_unstaging s q (leave u came) = streamed_unstaging false s q came
+
 expiry_unstaging : (q : ℕ) (o : Option FlowEnd) → AllUnstaging (expiry q o)
 expiry_unstaging q None = (tt, tt)
 expiry_unstaging q (Some end) = tt
 
-then_unstaging : (members : List ℕ) (s : State) (q : ℕ) (o : Option (Refusal Cut)) → AllUnstaging (acts_then members s q o)
-then_unstaging members s q (Some reason) = tt
-then_unstaging members s q None =
-    let end = end_in members s q in
-    all_append IsUnstaging (acts_to_end members) (acts_past_end q end)
-    (tt, all_append IsUnstaging (round members) (round members) (round_unstaging members) (round_unstaging members))
+then_unstaging : (members : List ℕ) (s : State) (q : ℕ) (done : List Act) (o : Option (Refusal Cut)) → AllUnstaging done → AllUnstaging (acts_then members s q done o)
+then_unstaging members s q done (Some reason) all = tt
+then_unstaging members s q done None all =
+    let end = end_in members s q done in
+    all_append IsUnstaging (acts_to_end members done) (acts_past_end q end)
+    (all_append IsUnstaging (done ++ round members) (round members) (all_append IsUnstaging done (round members) all (round_unstaging members)) (round_unstaging members))
     (tt, all_append IsUnstaging (expiry q end) (forgets ∷ []) (expiry_unstaging q end) (tt, tt))
 
--- an order leaves what is staged
-pub order_leaves : (c : Cluster) (time : ℕ) (order : Order) → (after_acts c.run (acts_at c time order)).world.roles ≡ c.run.world.roles
-order_leaves c time order = acts_leave (acts_at c time order) c.run (tt, (tt, then_unstaging c.members _ _ _))
+-- a job leaves what is staged
+pub job_leaves : (c : Cluster) (time : ℕ) (job : Job) → (after_acts c.run (acts_at c time job)).world.roles ≡ c.run.world.roles
+job_leaves c time job = acts_leave (acts_at c time job) c.run (tt, (tt, then_unstaging c.members _ _ _ _ (carried_unstaging _ _ job)))

@@ -45,11 +45,11 @@ pub record TookEnd (new : S3World) (s : State) (q : ℕ) (given : List ℕ) (end
 abbrev pub TakesEnd : S3World → S3World → ℕ → Option FlowEnd → Type 0
 TakesEnd old new q end = (given : List ℕ) (s : State) → IsGiving old s q given → TookEnd new s q given end
 
--- the request, which was opened, came to this end
-pub record Finished (new : S3World) (s : State) (members : List ℕ) (q : ℕ) (end : Option FlowEnd) : Type 0 where
-  pub end_is : end ≡ end_in members s q
-  pub does : DoneActs new s (acts_opened members s q)
+-- the request, which was opened, came to this end once this was done
+pub record Finished (new : S3World) (s : State) (members : List ℕ) (q : ℕ) (done : List Act) (end : Option FlowEnd) : Type 0 where
+  pub end_is : end ≡ end_in members s q done
+  pub does : DoneActs new s (acts_opened members s q done)
 
--- whatever state the world stood for in which nothing was handed out of request q, it was brought to its end
-abbrev pub Finishes : S3World → S3World → List ℕ → ℕ → Option FlowEnd → Type 0
-Finishes old new members q end = (s : State) → IsGiving old s q [] → Finished new s members q end
+-- whatever state the world stood for in which nothing was handed out of request q, this was done, and it was brought to its end
+abbrev pub Finishes : S3World → S3World → List ℕ → ℕ → (State → List Act) → Option FlowEnd → Type 0
+Finishes old new members q done end = (s : State) → IsGiving old s q [] → Finished new s members q (done s) end

@@ -14,6 +14,7 @@ use Rattle.store_model.specs.Run.{State}
 use Rattle.store_model.specs.Acts.{Act, moves, after_acts}
 use Rattle.s3_world.specs.declared.world.S3World.{S3World}
 use Rattle.s3_world.specs.Stands.{IsStore}
+use Rattle.serve_model.specs.declared.upload.Upload.{Upload}
 use Rattle.serve_model.specs.Stores.{Given}
 use Rattle.serve_model.specs.Clusters.{Cluster, asker, ActLacksRoom}
 use Rattle.serve_changes.specs.Acts.{stages_of}
@@ -24,6 +25,7 @@ use Rattle.serve_cluster.specs.Acting.{DoneActs}
 use Rattle.change_deeds.specs.Deeds.{acts_past_apply}
 use Rattle.serve_cluster.specs.Giving.{IsOnItsWay, left_in}
 use Rattle.serve_cluster.specs.Standing.{StandsFor}
+use Rattle.serve_cluster.specs.Uploads.{IsUploading}
 
 -- the nodes of these roles
 abbrev pub nodes_of : List Role → List ℕ
@@ -109,3 +111,11 @@ pub record IsChangingGet (c : Changing) (m : Models) (time : ℕ) (order : Order
 -- more than how often it goes on
 abbrev pub left_then : Changing → ℕ
 left_then c = left_in c.cluster
+
+-- ---- an upload on its way
+
+-- an upload is on its way in the cluster: these of its bytes came, and it needs so many next; then come the changes
+pub record IsChangingUpload (c : Changing) (m : Models) (time : ℕ) (u : Upload) (came : List ℕ) (need : Option ℕ) : Type 0 where
+  pub cluster : IsUploading c.cluster m.cluster time u came need
+  pub staged : AreWithin m.cluster.run.world.roles
+  pub to_come : AreChanges m.cluster.members c.to_come m.to_come

@@ -1,5 +1,5 @@
 -- A get that is on its way.
-use Rattle.std.specs.Prelude.{◌≡◌, ◌≤◌, ◌+◌, ◌-◌, ℕ, suc, ⊤, Bool, true, false, if◌then◌else◌, ◌^◌, option_map, List, [], ◌∷◌, Option, None, Some, max}
+use Rattle.std.specs.Prelude.{◌≡◌, ◌<◌, ◌≤◌, ◌+◌, ◌-◌, ℕ, suc, ⊤, Bool, true, false, if◌then◌else◌, ◌^◌, option_map, List, [], ◌∷◌, Option, None, Some, max}
 use Rattle.std.specs.List.{AllByRecursion}
 use Rattle.crdt_rows.specs.declared.version.Version.{Version}
 use Rattle.crdt_rows.specs.declared.body.Meta.{Meta}
@@ -16,7 +16,7 @@ use Rattle.store_model.specs.Gets.{found_by}
 use Rattle.s3_world.specs.declared.world.S3World.{S3World}
 use Rattle.s3_world.specs.Stands.{IsStore, IsGiving}
 use Rattle.serve_model.specs.Stores.{Given}
-use Rattle.serve_model.specs.Clusters.{Cluster as Model, acts_to_ask, acts_to_end, acts_opened, end_in, given_by, wait, asking, ActLacksRoom}
+use Rattle.serve_model.specs.Clusters.{Cluster as Model, delivered, acts_to_ask, acts_to_end, acts_opened, end_in, given_by, wait, asking, ActLacksRoom}
 use Rattle.get_laws.specs.OnTheWay.{KnowsRequests, LeavesEnd, next_request}
 use Rattle.serve_loop.specs.declared.storage.Got.{Got}
 use Rattle.serve_loop.specs.declared.storage.Got.TheVariants.{Found, Piece, End}
@@ -49,7 +49,7 @@ pub record HasGiven (world : S3World) (q : ℕ) (told : Bool) (acts : List Act) 
 
 -- the acts of a get since it was opened
 abbrev pub acts_since : List ℕ → Getting → List Act
-acts_since members g = if g.worked then acts_to_end members else drain (all_messages - g.left) ∷ []
+acts_since members g = if g.worked then acts_to_end members delivered else drain (all_messages - g.left) ∷ []
 
 -- a get that was opened in a state is on its way in a world, and has given so much
 pub record IsGetting (world : S3World) (members : List ℕ) (g : Getting) (s : State) (so_far : Option Given) : Type 0 where
@@ -62,7 +62,7 @@ HasGot world g = (members : List ℕ) × (s : State) × (so_far : Option Given) 
 
 -- all messages were delivered, and it has given so much in the world
 abbrev pub IsDrainedGet : S3World → Getting → State → Option Given → Type 0
-IsDrainedGet world g s so_far = HasGiven world g.request g.told (drain all_messages ∷ []) s so_far
+IsDrainedGet world g s so_far = HasGiven world g.request g.told delivered s so_far
 
 -- it has given something in the world then
 abbrev pub HasDrainedGet : S3World → Getting → Type 0
@@ -109,13 +109,13 @@ Delivers old new g h got = (members : List ℕ) (s : State) (so_far : Option Giv
 
 -- whatever it had given, a drain of all messages has no room
 abbrev pub LacksDrain : S3World → Getting → Type 0
-LacksDrain old g = (members : List ℕ) (s : State) (so_far : Option Given) → IsGetting old members g s so_far → ActLacksRoom s (drain all_messages ∷ [])
+LacksDrain old g = (members : List ℕ) (s : State) (so_far : Option Given) → IsGetting old members g s so_far → ActLacksRoom s delivered
 
 -- request q, which was opened in a state, ended so, past what it had given, and its end was taken
 pub record Ended (world : S3World) (members : List ℕ) (q : ℕ) (s : State) (so_far : Option Given) (end : Option FlowEnd) : Type 0 where
-  pub end_is : with_given so_far end ≡ end_in members s q
-  pub all : GaveAll so_far (given_by (after_acts s (acts_to_end members)) q) end
-  pub does : DoneActs world s (acts_opened members s q)
+  pub end_is : with_given so_far end ≡ end_in members s q delivered
+  pub all : GaveAll so_far (given_by (after_acts s (acts_to_end members delivered)) q) end
+  pub does : DoneActs world s (acts_opened members s q delivered)
 
 -- it gives more, or ends
 abbrev pub GivesOrEnds : S3World → List ℕ → Getting → State → Option Given → Got → Type 0
@@ -129,14 +129,14 @@ GivesNext old new members g h got = (s : State) (so_far : Option Given) → IsGe
 
 -- whatever it had given, one of its acts has no room
 abbrev pub LacksGetting : S3World → List ℕ → Getting → Type 0
-LacksGetting old members g = (s : State) (so_far : Option Given) → IsGetting old members g s so_far → ActLacksRoom s (acts_opened members s g.request)
+LacksGetting old members g = (s : State) (so_far : Option Given) → IsGetting old members g s so_far → ActLacksRoom s (acts_opened members s g.request delivered)
 
 -- the same, once all messages were delivered
 abbrev pub GivesRest : S3World → S3World → List ℕ → Getting → Getting → Got → Type 0
 GivesRest old new members g h got = (s : State) (so_far : Option Given) → IsDrainedGet old g s so_far → GivesOrEnds new members h s so_far got
 
 abbrev pub LacksRest : S3World → List ℕ → Getting → Type 0
-LacksRest old members g = (s : State) (so_far : Option Given) → IsDrainedGet old g s so_far → ActLacksRoom s (acts_opened members s g.request)
+LacksRest old members g = (s : State) (so_far : Option Given) → IsDrainedGet old g s so_far → ActLacksRoom s (acts_opened members s g.request delivered)
 
 -- ---- in a cluster
 
@@ -164,6 +164,7 @@ pub record HasAsked (c : Cluster) (m : Model) (time : ℕ) (order : Order) (numb
   pub gives : GivesNothing c.world (asking m.members m.run (wait m time) order).state number
   pub ticked : c.ticked ≡ max m.ticked time
   pub members : c.members ≡ m.members
+  pub sized : 0 < m.run.block
   pub knows : KnowsRequests m.run
   pub number_is : IsNumber number (asking m.members m.run (wait m time) order)
 

@@ -1,4 +1,5 @@
 pub mod Acting
 pub mod Standing
 pub mod Giving
+pub mod Uploads
 pub mod Changes

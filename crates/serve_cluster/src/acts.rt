@@ -2,13 +2,13 @@
 ghost use Rattle.std.specs.Prelude.{◌≡◌, false, [], ◌∷◌, ◌++◌, OnOk, IfOk};
 ghost use Rattle.crdt_core.specs.Outcomes.{WantOr};
 ghost use Rattle.cluster_machine.specs.declared.step.Step.TheVariants.{Tick, Expire};
-ghost use Rattle.store_model.specs.Run.{plainly};
-ghost use Rattle.store_model.specs.Acts.{moves, drain, acted, end_of, all_messages};
-ghost use Rattle.s3_world.specs.Stands.{HasStore, Overflows};
-ghost use Rattle.serve_model.specs.Clusters.{works, round as round_of, acts_to_end, acts_past_end, acts_opened, expiry};
+ghost use Rattle.store_model.specs.Run.{plainly, need_at};
+ghost use Rattle.store_model.specs.Acts.{moves, drain, feeds, keeps, acted, end_of};
+ghost use Rattle.s3_world.specs.Stands.{HasStore, Allows, Overflows};
+ghost use Rattle.serve_model.specs.Clusters.{works, round as round_of, delivered, fed_block, decided, acts_past_end, acts_opened, expiry};
 ghost use Rattle.serve_cluster.specs.Acting.{DoesActs, KeepsActs, LacksRoom, IsDrained, TakesEnd, Finishes};
 
-use crdt_core::Memory;
+use crdt_core::{Bytes, Memory};
 use flow_model::FlowEnd;
 use s3_world::{Event, S3World};
 
@@ -27,8 +27,8 @@ pub(crate) fn tick(world: &mut S3World, ms: u64) -> Result<(), Memory>
 /// All messages are delivered.
 pub(crate) fn drain_all(world: &mut S3World) -> Result<(), Memory>
     requires { HasStore world.old }
-    ensures keeps { OnOk result (KeepsActs world.old world.new (drain all_messages ∷ [])) }
-    ensures causes { WantOr result (LacksRoom world.old (λ _. drain all_messages ∷ [])) }
+    ensures keeps { OnOk result (KeepsActs world.old world.new delivered) }
+    ensures causes { WantOr result (LacksRoom world.old (λ _. delivered)) }
 {
     match world.drain_all() {
         Ok(()) => Ok(()),
@@ -101,18 +101,6 @@ pub(crate) fn rounds(world: &mut S3World, members: &[u8]) -> Result<(), Memory>
     }
 }
 
-// A request that was asked comes to its end.
-fn to_end(world: &mut S3World, members: &[u8]) -> Result<(), Memory>
-    requires { HasStore world.old }
-    ensures keeps { OnOk result (KeepsActs world.old world.new (acts_to_end members.now)) }
-    ensures causes { WantOr result (LacksRoom world.old (λ _. acts_to_end members.now)) }
-{
-    match drain_all(world) {
-        Ok(()) => rounds(world, members),
-        Err(memory) => Err(memory),
-    }
-}
-
 // A request without an end is expired.
 fn expire(world: &mut S3World, request: u64, end: &Option<FlowEnd>) -> Result<(), Memory>
     requires { HasStore world.old }
@@ -144,6 +132,18 @@ pub(crate) fn take(world: &mut S3World, request: u64) -> Result<Option<FlowEnd>,
     }
 }
 
+// Two rounds follow, and the end of a request is taken. None where it has none.
+fn end(world: &mut S3World, members: &[u8], request: u64) -> Result<Option<FlowEnd>, Memory>
+    requires { HasStore world.old }
+    ensures does { IfOk result (λ end. Finishes world.old world.new members.now request (λ _. []) end) }
+    ensures causes { WantOr result (LacksRoom world.old (λ s. acts_opened members.now s request [])) }
+{
+    match rounds(world, members) {
+        Ok(()) => take(world, request),
+        Err(memory) => Err(memory),
+    }
+}
+
 /// A request that was opened comes to its end, which is taken. None where it has none.
 pub(crate) fn finish(
     world: &mut S3World,
@@ -151,11 +151,60 @@ pub(crate) fn finish(
     request: u64,
 ) -> Result<Option<FlowEnd>, Memory>
     requires { HasStore world.old }
-    ensures does { IfOk result (λ end. Finishes world.old world.new members.now request end) }
-    ensures causes { WantOr result (LacksRoom world.old (λ s. acts_opened members.now s request)) }
+    ensures does { IfOk result (λ end. Finishes world.old world.new members.now request (λ _. delivered) end) }
+    ensures causes { WantOr result (LacksRoom world.old (λ s. acts_opened members.now s request delivered)) }
 {
-    match to_end(world, members) {
-        Ok(()) => take(world, request),
+    match drain_all(world) {
+        Ok(()) => end(world, members, request),
         Err(memory) => Err(memory),
+    }
+}
+
+/// A block comes for a request that needs it, and all messages are delivered.
+pub(crate) fn feed(world: &mut S3World, request: u64, bytes: Bytes) -> Result<(), Memory>
+    requires stands { HasStore world.old }
+    requires needed { Allows world.old (feeds request bytes) }
+    ensures keeps { OnOk result (KeepsActs world.old world.new (fed_block request bytes)) }
+    ensures causes { WantOr result (LacksRoom world.old (λ _. fed_block request bytes)) }
+{
+    match world.feed(request, bytes) {
+        Ok(()) => drain_all(world),
+        Err(memory) => Err(memory),
+    }
+}
+
+/// A request whose bytes all came is kept, and comes to its end.
+pub(crate) fn keep(
+    world: &mut S3World,
+    members: &[u8],
+    request: u64,
+) -> Result<Option<FlowEnd>, Memory>
+    requires stands { HasStore world.old }
+    requires needed { Allows world.old (keeps request) }
+    ensures does { IfOk result (λ end. Finishes world.old world.new members.now request (λ _. keeps request ∷ delivered) end) }
+    ensures causes { WantOr result (LacksRoom world.old (λ s. acts_opened members.now s request (keeps request ∷ delivered))) }
+{
+    match world.finish(request) {
+        Ok(()) => finish(world, members, request),
+        Err(memory) => Err(memory),
+    }
+}
+
+/// A request is given up if it waits for bytes, and comes to its end.
+pub(crate) fn leave(
+    world: &mut S3World,
+    members: &[u8],
+    request: u64,
+) -> Result<Option<FlowEnd>, Memory>
+    requires { HasStore world.old }
+    ensures does { IfOk result (λ end. Finishes world.old world.new members.now request (λ s. decided false request (need_at s request)) end) }
+    ensures causes { WantOr result (LacksRoom world.old (λ s. acts_opened members.now s request (decided false request (need_at s request)))) }
+{
+    match world.need(request) {
+        Some(_) => match world.abort(request) {
+            Ok(()) => finish(world, members, request),
+            Err(memory) => Err(memory),
+        },
+        None => end(world, members, request),
     }
 }

@@ -10,6 +10,7 @@ use crdt_core::{Bytes, List, Memory};
 use flow_model::{FlowEnd, Order};
 use s3_world::S3World;
 use serve_loop::{Got, Storage};
+use serve_model::Upload;
 
 /// A cluster, and the changes of its layout that are to come, in order.
 #[derive(Drop)]
@@ -71,7 +72,7 @@ impl Changing {
 
 impl Storage for Changing {
     ghost use Rattle.serve_changes.specs.Changing.{Changing as Modelled, changing, changing_fits, changing_lacks};
-    ghost use Rattle.serve_cluster.specs.Changes.{IsChanging, IsChangingGet, left_then};
+    ghost use Rattle.serve_cluster.specs.Changes.{IsChanging, IsChangingGet, IsChangingUpload, left_then};
 
     ghost State = { Modelled };
 
@@ -86,6 +87,8 @@ impl Storage for Changing {
     ghost gives = { IsChangingGet };
 
     ghost left = { left_then };
+
+    ghost takes = { IsChangingUpload };
 
     fn carry(&mut self, time: u64, order: Order) -> Result<Option<FlowEnd>, Memory> {
         match self.cluster.carry(time, order) {
@@ -112,6 +115,40 @@ impl Storage for Changing {
             },
             Ok(Got::Found(version, meta)) => Ok(Got::Found(version, meta)),
             Ok(Got::Piece(piece)) => Ok(Got::Piece(piece)),
+            Err(memory) => Err(memory),
+        }
+    }
+
+    fn receive(&mut self, time: u64, upload: Upload) -> Result<Option<u64>, Memory> {
+        match self.cluster.receive(time, upload) {
+            Ok(need) => Ok(need),
+            Err(memory) => Err(memory),
+        }
+    }
+
+    fn feed(&mut self, bytes: Bytes) -> Result<Option<u64>, Memory> {
+        match self.cluster.feed(bytes) {
+            Ok(need) => Ok(need),
+            Err(memory) => Err(memory),
+        }
+    }
+
+    fn keep(&mut self) -> Result<Option<FlowEnd>, Memory> {
+        match self.cluster.keep() {
+            Ok(end) => match self.make_due() {
+                Ok(()) => Ok(end),
+                Err(memory) => Err(memory),
+            },
+            Err(memory) => Err(memory),
+        }
+    }
+
+    fn leave(&mut self) -> Result<Option<FlowEnd>, Memory> {
+        match self.cluster.leave() {
+            Ok(end) => match self.make_due() {
+                Ok(()) => Ok(end),
+                Err(memory) => Err(memory),
+            },
             Err(memory) => Err(memory),
         }
     }

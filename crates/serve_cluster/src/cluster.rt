@@ -3,18 +3,19 @@ ghost use Rattle.std.specs.Prelude.{◌≡◌, ℕ, OnOk, IfOk};
 ghost use Rattle.crdt_core.specs.Outcomes.{WantOr};
 ghost use Rattle.store_model.specs.Run.{State};
 ghost use Rattle.store_model.specs.Acts.{AreLawfulActs, ActsFit, HasKey};
-ghost use Rattle.serve_model.specs.Clusters.{Cluster as Modelled, asker as asker_of, cluster, fits as fits_of, lacks as lacks_of};
-ghost use Rattle.serve_model.specs.Clusters.{ActLacksRoom};
+ghost use Rattle.serve_model.specs.Stores.{stream_of};
+ghost use Rattle.serve_model.specs.Clusters.{Cluster as Modelled, asker as asker_of, wait, acts_to_ask, ActLacksRoom};
 ghost use Rattle.serve_changes.specs.Changing.{Change as Model, acts_in, changed};
 ghost use Rattle.s3_world.specs.Stands.{IsStore};
 
-use crate::acts::{finish, tick};
+use crate::acts::{drain_all, feed, finish, keep, leave, tick};
 use crate::change::{Change, make};
 use crate::getting::{Getting, begun, go_on};
 use crdt_core::{Bytes, List, Memory};
 use flow_model::{FlowEnd, Order};
 use s3_world::S3World;
 use serve_loop::{Got, Storage};
+use serve_model::Upload;
 
 /// A world, the members of its layout in order, and to which time it was brought, in milliseconds since 1970.
 #[derive(Drop)]
@@ -24,6 +25,8 @@ pub struct Cluster {
     ticked: u64,
     /// The get that is on its way. None where it was refused, or none is.
     getting: Option<Getting>,
+    /// The upload that is on its way, by the number of its request. None where it was refused, or none is.
+    uploading: Option<u64>,
 }
 
 /// The first of the members.
@@ -33,6 +36,24 @@ pub(crate) fn asker(members: &[u8]) -> u8
     match members.first() {
         Some(member) => *member,
         None => 0,
+    }
+}
+
+// The order of an upload.
+fn order_of(upload: Upload) -> Order
+    ensures { result ≡ stream_of upload }
+{
+    let Upload {
+        bucket,
+        key,
+        length,
+        headers,
+    } = upload;
+    Order::Stream {
+        bucket,
+        key,
+        length,
+        headers,
     }
 }
 
@@ -51,6 +72,7 @@ impl Cluster {
             members,
             ticked: 0,
             getting: None,
+            uploading: None,
         }
     }
 
@@ -66,7 +88,7 @@ impl Cluster {
         requires state { HasState (StandsFor self.old) }
         requires keyed { HasKey order }
         ensures asks { IfOk result (λ number. (m : Modelled) → StandsFor self.old m → HasAsked self.new m time order number) }
-        ensures causes { WantOr result ((m : Modelled) → StandsFor self.old m → lacks_of m time order) }
+        ensures causes { WantOr result ((m : Modelled) → StandsFor self.old m → ActLacksRoom m.run (acts_to_ask m.members (wait m time) order)) }
     {
         let ms = time.saturating_sub(self.ticked);
         match tick(&mut self.world, ms) {
@@ -102,6 +124,7 @@ impl Storage for Cluster {
     ghost use Rattle.serve_model.specs.Clusters.{Cluster as Modelled, cluster, fits as fits_of, lacks as lacks_of};
     ghost use Rattle.serve_cluster.specs.Giving.{IsOnItsWay, left_in};
     ghost use Rattle.serve_cluster.specs.Standing.{StandsFor};
+    ghost use Rattle.serve_cluster.specs.Uploads.{IsUploading};
 
     ghost State = { Modelled };
 
@@ -116,6 +139,8 @@ impl Storage for Cluster {
     ghost gives = { IsOnItsWay };
 
     ghost left = { left_in };
+
+    ghost takes = { IsUploading };
 
     fn carry(&mut self, time: u64, order: Order) -> Result<Option<FlowEnd>, Memory> {
         match self.ask(time, order) {
@@ -139,6 +164,44 @@ impl Storage for Cluster {
         match &mut self.getting {
             Some(getting) => go_on(&mut self.world, self.members.as_slice(), getting),
             None => Ok(Got::End(None)),
+        }
+    }
+
+    fn receive(&mut self, time: u64, upload: Upload) -> Result<Option<u64>, Memory> {
+        match self.ask(time, order_of(upload)) {
+            Ok(number) => self.uploading = number,
+            Err(memory) => return Err(memory),
+        }
+        match self.uploading {
+            Some(request) => match drain_all(&mut self.world) {
+                Ok(()) => Ok(self.world.need(request)),
+                Err(memory) => Err(memory),
+            },
+            None => Ok(None),
+        }
+    }
+
+    fn feed(&mut self, bytes: Bytes) -> Result<Option<u64>, Memory> {
+        match self.uploading {
+            Some(request) => match feed(&mut self.world, request, bytes) {
+                Ok(()) => Ok(self.world.need(request)),
+                Err(memory) => Err(memory),
+            },
+            None => Ok(None),
+        }
+    }
+
+    fn keep(&mut self) -> Result<Option<FlowEnd>, Memory> {
+        match self.uploading {
+            Some(request) => keep(&mut self.world, self.members.as_slice(), request),
+            None => Ok(None),
+        }
+    }
+
+    fn leave(&mut self) -> Result<Option<FlowEnd>, Memory> {
+        match self.uploading {
+            Some(request) => leave(&mut self.world, self.members.as_slice(), request),
+            None => Ok(None),
         }
     }
 }

@@ -8,9 +8,10 @@ use Rattle.serve_model.specs.declared.admitted.Admitted.{Admitted}
 use Rattle.serve_model.specs.Admitting.{admitted}
 use Rattle.serve_model.specs.declared.buckets.Buckets.{Buckets}
 use Rattle.serve_model.specs.declared.request.Request.{Request}
-use Rattle.serve_model.specs.Judging.{refusal_of, counted_before, order_of}
+use Rattle.serve_model.specs.Judging.{refusal_of, counted_before, upload_of, order_of}
+use Rattle.serve_model.specs.declared.upload.Upload.{Upload}
 use Rattle.serve_model.specs.Stores.{Store}
-use Rattle.serve_model.specs.Talk.{Grammar, Serving, Stop, Turn, behind, kept_limit, exceeded, counted, counting, order_turn, plan_turn, judged_turn, whole_turn, body_turn, waiting_turn, interim, request_of, request_turn, asked_turn, head_turn, turn}
+use Rattle.serve_model.specs.Talk.{Grammar, Serving, Stop, Turn, behind, kept_limit, exceeded, counted, counting, order_turn, plan_turn, judged_turn, whole_turn, body_turn, stream_turn, coming_turn, waiting_turn, interim, request_of, request_turn, asked_turn, head_turn, turn}
 use Rattle.serve_model.proofs.Ones.{one_weaker, one_mapped}
 use Rattle.serve_loop.proofs.Serving.{Begins, BeginsWith}
 
@@ -44,10 +45,18 @@ module _ {S : Type 0} (store : Store S) (buckets : Buckets) where
   unfolding body_turn
   body_begins r p rest = inl (refl, refl)
 
+  pub stream_begins : (r : Request) (u : Upload) (p : Serving S) (rest : List ℕ) → BeginsWith p (stream_turn store buckets r u p rest)
+  unfolding stream_turn
+  stream_begins r u p rest = inl (refl, refl)
+
+  pub coming_begins : (r : Request) (u : Option Upload) (p : Serving S) (rest : List ℕ) → BeginsWith p (coming_turn store buckets r u p rest)
+  coming_begins r (Some u) p rest = stream_begins r u p rest
+  coming_begins r None p rest = body_begins r p rest
+
   waiting_begins : (r : Request) (p : Serving S) (rest : List ℕ) → Begins (waiting_turn store buckets r p rest)
   waiting_begins r p rest =
-      let t = body_turn store buckets r p rest in
-      one_mapped (λ (stop : Stop S). stop.asks ≡ []) (λ (stop : Stop S). stop.asks ≡ []) (behind (interim r) []) (λ stop e. e) t.stops (begins_so p t (body_begins r p rest))
+      let t = coming_turn store buckets r (upload_of buckets r) p rest in
+      one_mapped (λ (stop : Stop S). stop.asks ≡ []) (λ (stop : Stop S). stop.asks ≡ []) (behind (interim r) []) (λ stop e. e) t.stops (begins_so p t (coming_begins r (upload_of buckets r) p rest))
 
   pub request_begins : (r : Request) (p : Serving S) (rest : List ℕ) → Begins (request_turn store buckets r p rest)
   request_begins r p rest = counting_begins (counted_before buckets.names r.ask r.length) p (λ q. waiting_turn store buckets r q rest) (λ q. waiting_begins r q rest)

@@ -11,17 +11,17 @@ use Rattle.serve_model.specs.declared.answer.Answer.TheVariants.{Refusal}
 use Rattle.serve_model.specs.declared.request.Request.{Request}
 use Rattle.serve_model.specs.Stores.{Store}
 use Rattle.serve_model.specs.Talk.{Serving, passing, answer_turn, whole_turn, body_turn}
-use Rattle.serve_loop.proofs.Serving.{IsQuiet, IsFailed}
+use Rattle.serve_loop.specs.Taking.{IsQuiet, IsFailed}
 
 all_taken : (xs : List ℕ) → take (length xs) xs ≡ xs
 all_taken [] = refl
 all_taken (x ∷ xs) = ap (λ ys. x ∷ ys) (all_taken xs)
 
-front_is : (all body rest : List ℕ) (size : ℕ) → all ≡ body ++ rest → length body ≡ size → take size all ≡ body
+pub front_is : (all body rest : List ℕ) (size : ℕ) → all ≡ body ++ rest → length body ≡ size → take size all ≡ body
 front_is all body rest size e n =
     ap (λ k. take k all) (sym n) ∙ ap (take (length body)) e ∙ take-append-le (length body) body rest (omega arith) ∙ all_taken body
 
-rest_is : (all body rest : List ℕ) (size : ℕ) → all ≡ body ++ rest → length body ≡ size → drop size all ≡ rest
+pub rest_is : (all body rest : List ℕ) (size : ℕ) → all ≡ body ++ rest → length body ≡ size → drop size all ≡ rest
 rest_is all body rest size e n = ap (λ k. drop k all) (sym n) ∙ ap (drop (length body)) e ∙ drop-append_seam body rest
 
 module _ {S : Type 0} (store : Store S) (buckets : Buckets) (r : Request) (p : Serving S) where
@@ -42,7 +42,7 @@ module _ {S : Type 0} (store : Store S) (buckets : Buckets) (r : Request) (p : S
       ∙ ap (answer_turn r (Refusal IncompleteBody) p) (sym h.1))
 
 pub takes_quiet : (kept seen : List ℕ) (c d : Connection) → Takes kept seen c d → IsQuiet c d
-takes_quiet kept seen c d t = record { unwritten = t.unwritten; counted = omega (arith, t.steady) }
+takes_quiet kept seen c d t = record { unwritten = t.unwritten; steady = t.steady }
 
 pub fails_failed : (kept seen : List ℕ) (c d : Connection) → Fails kept seen c d → IsFailed c d
-fails_failed kept seen c d h = record { unwritten = h.0.unwritten; rose = h.1 }
+fails_failed kept seen c d h = record { unwritten = h.0.unwritten; rose = h.1; counted = h.2 }

@@ -1,17 +1,17 @@
 -- Connections, served one after the other.
-use Rattle.std.proofs.Common.{◌≡◌, ℕ, ◌+◌, List, [], ◌∷◌, ◌++◌, length-append, Option, Some, None, IsSome, IfSome, option_to_list, Result, Ok, Err, refl, sym, ◌∙◌, ap, subst, append_assoc, append-nil}
+use Rattle.std.proofs.Common.{◌≡◌, ℕ, ◌+◌, List, [], ◌∷◌, ◌++◌, arith, length, length-append, Option, Some, None, IsSome, IfSome, option_to_list, true, false, Result, Ok, Err, OnOk, inl, inr, refl, sym, ◌∙◌, ap, subst, append_assoc, append-nil}
+use Rattle.std.specs.Prelude.{is_err}
 use Rattle.lab_outside.specs.Connection.{Connection, IsFresh, OnPresent, TakesNext}
 use Rattle.lab_outside.specs.Rose.{Rose}
 use Rattle.lab_outside.specs.Bytes.{Wrote, WrotePrefix}
-use Rattle.flow_model.specs.declared.order.Order.{Order}
 use Rattle.serve_model.specs.declared.buckets.Buckets.{Buckets}
 use Rattle.serve_model.specs.declared.served.Served.{Served}
 use Rattle.serve_model.specs.declared.served.ServeFault.{ServeFault}
 use Rattle.serve_model.specs.declared.served.ServeFault.TheVariants.{Kept}
-use Rattle.serve_model.specs.Stores.{Given, Store, Asking, fits_asking, gives_asked, Known, OverflowsAmong, known_from}
+use Rattle.serve_model.specs.Stores.{Job, Given, Store, Asking, fits_asking, gives_asked, Known, OverflowsAmong, known_from}
 use Rattle.serve_model.specs.Talk.{Grammar, Serving, Stop, Halt, begun_text, talk, request_limit}
-use Rattle.serve_model.specs.Serving.{Reached, ComesTo, ComesInto, CutOffAt, GivesUp, Stands, OnLeft}
-use Rattle.serve_model.specs.Connections.{Talks, whole, cut_off, limited, given_up, halted, IsPrefixOf, IsUpTo, IsInto, IsServed, exact, part, AreServed, ServesAll, EndsSo, too_many, begun, halted as halts, ServesAllButLast}
+use Rattle.serve_model.specs.Serving.{Reached, ComesTo, ComesInto, CutOffAt, GivesUp, IsLostAt, IsSteady, Stands, OnLeft}
+use Rattle.serve_model.specs.Connections.{Talks, whole, cut_off, limited, given_up, halted, IsPrefixOf, IsUpTo, IsInto, WasSteady, IsServed, exact, part, AreServed, ServesAll, EndsSo, too_many, begun, halted as halts, ServesAllButLast}
 use Rattle.serve_model.proofs.Ones.{one_weaker, one_at, at_one}
 use Rattle.serve_loop.proofs.Serving.{at_left, gives_up_for}
 use Rattle.serve_loop.proofs.Talking.{stands_more, stands_plain, among_more}
@@ -50,7 +50,7 @@ module _ {S : Type 0} (store : Store S) (buckets : Buckets) (g : Grammar) (known
     up_to stop h = (prefix_is c.written d.written stop.text fresh.unwritten h.0, h.1)
 
     served_once : Talks (talk store buckets g request_limit p bytes) holds known times served (Ok tt) c d → ServedOnce p bytes holds times served d
-    served_once (whole ok over w asked st n) = record { serving = (talk store buckets g request_limit p bytes).serving; is_served = exact over (written_is c.written d.written (talk store buckets g request_limit p bytes).text fresh.unwritten w) asked refl; stands = st }
+    served_once (whole ok over w asked st n) = record { serving = (talk store buckets g request_limit p bytes).serving; is_served = exact over (written_is c.written d.written (talk store buckets g request_limit p bytes).text fresh.unwritten w) asked (n ∙ fresh.faultless) refl; stands = st }
     served_once (cut_off ok n stops) =
         let t = talk store buckets g request_limit p bytes in
         let P : ℕ → Type 0 = λ k. Rose k d.faults in
@@ -68,6 +68,13 @@ module _ {S : Type 0} (store : Store S) (buckets : Buckets) (g : Grammar) (known
     into : ((a : Asking S) (given : Given) → known.gives a given → gives_asked store a given) → (halt : Halt S) → ComesInto known c d halt → IsInto store buckets g known.fits d halt
     into may halt h = (h.0, may halt.asking h.0 h.1, prefix_is c.written d.written (halt.text ++ begun_text halt.request (Some h.0)) fresh.unwritten h.2, h.3)
 
+    -- where no call failed, or one with which the client of an upload was lost
+    was_steady : (stops : List (Stop S)) → IsSteady known.fits stops c d → WasSteady store buckets g known.fits d stops
+    was_steady stops (inl same) = inl (same ∙ fresh.faultless)
+    was_steady stops (inr (rose, lost)) =
+        inr
+        (subst (λ k. Rose k d.faults) fresh.faultless rose, one_weaker (IsLostAt known.fits c d) (λ (stop : Stop S). IsUpTo store buckets g known.fits d stop × (stop.uploads ≡ true)) (λ stop h. (up_to stop h.0, h.1)) stops lost)
+
     -- where serving ends with it, for a reason that holds of what was served before it too
     ends_so : (before : List (Asking S) → Type 0) → ((a : Asking S) (given : Given) → known.gives a given → gives_asked store a given) → (known.overflows (talk store buckets g request_limit p bytes).asks → before (talk store buckets g request_limit p bytes).asks) → (e : ServeFault) → Talks (talk store buckets g request_limit p bytes) holds known times served (Err e) c d
         → EndsSo store buckets g known.fits before (talk store buckets g request_limit p bytes) d e
@@ -75,11 +82,12 @@ module _ {S : Type 0} (store : Store S) (buckets : Buckets) (g : Grammar) (known
     ends_so before may f e (cut_off ok n at) = absurd (ok_is_no_error (Err e) e ok refl)
     ends_so before may f e (limited err over w asked n) =
         let P : ServeFault → Type 0 = EndsSo store buckets g known.fits before (talk store buckets g request_limit p bytes) d in
-        subst P (sym (same_fault (Err e) e Kept refl err)) (too_many over (written_is c.written d.written (talk store buckets g request_limit p bytes).text fresh.unwritten w) asked)
+        subst P (sym (same_fault (Err e) e Kept refl err)) (too_many over (written_is c.written d.written (talk store buckets g request_limit p bytes).text fresh.unwritten w) asked (n ∙ fresh.faultless))
     ends_so before may f e (given_up m err why at n) =
         let asks = (talk store buckets g request_limit p bytes).asks in
         let Q : ServeFault → Type 0 = GivesUp before asks in
         begun e (subst Q (sym (same_fault (Err e) e m refl err)) (gives_up_for m known.overflows before asks asks f why)) (one_weaker (ComesTo known.fits c d) (IsUpTo store buckets g known.fits d) up_to (talk store buckets g request_limit p bytes).stops at)
+        (was_steady (talk store buckets g request_limit p bytes).stops n)
     ends_so before may f e (halted m err why at n) =
         let asks = (talk store buckets g request_limit p bytes).asks in
         let Q : ServeFault → Type 0 = GivesUp before asks in
@@ -108,7 +116,7 @@ comes_of [] new c h = absurd (some_is_none c h.1)
     some_is_none x e = cc
 comes_of (bytes ∷ rest) new c h = record { bytes = bytes; rest = rest; first = refl; new_is = h.0; left = h.1 }
 
-module _ {S : Type 0} (store : Store S) (fits lacks : S → ℕ → Order → Type 0) (buckets : Buckets) (g : Grammar) (p : Serving S) (number : ℕ) (holds holds' : S → Type 0) (times times' : Option (List ℕ)) (served served' : Served) (past past1 past2 : List Connection) where
+module _ {S : Type 0} (store : Store S) (fits lacks : S → ℕ → Job → Type 0) (buckets : Buckets) (g : Grammar) (p : Serving S) (number : ℕ) (holds holds' : S → Type 0) (times times' : Option (List ℕ)) (served served' : Served) (past past1 past2 : List Connection) where
   Talked : Result Unit ServeFault → Connection → Connection → Type 0
   Talked r c d = (q : Serving S) → Stands holds times served q → OnLeft (λ left. Talks (talk store buckets g request_limit q left) (Reached store fits lacks holds' q.store) (known_from store fits lacks q.store) times' served' r c d) c.left
 
@@ -137,7 +145,7 @@ module _ {S : Type 0} (store : Store S) (fits lacks : S → ℕ → Order → Ty
           stands = stands_more store fits lacks holds' times' served' p.store a.serving.store s.serving a.stands.store.1 s.stands;
         }
 
-    last_begun : (e : ServeFault) → ((q : Serving S) → Stands holds times served q → OnLeft (λ left. Talks (talk store buckets g request_limit q left) (Reached store fits lacks holds' q.store) (known_from store fits lacks q.store) times' served' (Err e) c d) c.left) → ServesAllButLast store buckets g (fits_asking fits) (OverflowsAmong store fits lacks p.store) p e coming past past2
+    last_begun : (e : ServeFault) → ((q : Serving S) → Stands holds times served q → OnLeft (λ left. Talks (talk store buckets g request_limit q left) (Reached store fits lacks holds' q.store) (known_from store fits lacks q.store) times' served' (Err e) c d) c.left) → ServesAllButLast store buckets g (fits_asking fits) (OverflowsAmong store fits lacks p.store) p e coming new past past2
     last_begun e talks =
         let k = next_comes in
         record {
@@ -145,6 +153,7 @@ module _ {S : Type 0} (store : Store S) (fits lacks : S → ℕ → Order → Ty
           bytes = k.bytes;
           to_come = k.rest;
           comes = a.comes ∙ ap (λ r. a.came ++ r) k.first;
+          comes_new = k.new_is;
           gone = a.gone;
           last = d;
           goes = goes ∙ ap (λ x. x ++ d ∷ []) a.goes;
@@ -166,7 +175,7 @@ module _ {S : Type 0} (store : Store S) (fits lacks : S → ℕ → Order → Ty
 
   pub all_but_last : (e : ServeFault) (o old new : Option (List (List ℕ))) (m n : Option Connection) → IfSome o (λ coming. ServesAll store buckets g (fits_asking fits) p number (Reached store fits lacks holds p.store) times served coming old past past1) → TakesNext old new m → IsSome m → IsSome n → IfSome m IsFresh → past2 ≡ past1 ++ option_to_list n
       → ((q : Serving S) → Stands holds times served q → OnPresent (λ c d. OnLeft (λ left. Talks (talk store buckets g request_limit q left) (Reached store fits lacks holds' q.store) (known_from store fits lacks q.store) times' served' (Err e) c d) c.left) m n)
-      → IfSome o (λ coming. ServesAllButLast store buckets g (fits_asking fits) (OverflowsAmong store fits lacks p.store) p e coming past past2)
+      → IfSome o (λ coming. ServesAllButLast store buckets g (fits_asking fits) (OverflowsAmong store fits lacks p.store) p e coming new past past2)
   all_but_last e None old new m n a takes here there fresh goes talks = tt
   all_but_last e (Some coming) old new None n a takes here there fresh goes talks = cc
   all_but_last e (Some coming) old new (Some c) None a takes here there fresh goes talks = cc
@@ -200,6 +209,14 @@ module _ {S : Type 0} (store : Store S) (buckets : Buckets) (g : Grammar) (FitsI
 
 -- ---- the answers of the calls
 
+-- a call that didn't fail
+pub succeeded : {T E : Type 0} (r : Result T E) (P : Type 0) → is_err r ≡ false → OnOk r P → P
+succeeded (Ok x) P e h = h
+succeeded (Err x) P e h = absurd (true_is_false e)
+  where
+    true_is_false : true ≡ false → ⊥
+    true_is_false e = cc
+
 pub absent_of : (o : Option Connection) → (IsSome o → ⊥) → o ≡ None
 absent_of None h = refl
 absent_of (Some c) h = absurd (h refl)
@@ -210,6 +227,18 @@ goes_with past past1 past2 o none e k = k ∙ e ∙ ap (λ x. past ++ option_to_
 pub some_then : {X : Type 0} (P Q : X → Type 0) (o : Option X) → ((x : X) → P x → Q x) → IfSome o P → IfSome o Q
 some_then P Q None f h = tt
 some_then P Q (Some x) f h = f x h
+
+-- ---- how many are past
+
+-- one more
+pub gone_more : (past past1 past2 : List Connection) (o : Option Connection) (number : ℕ) → length past1 ≡ length past + number → IsSome o → past2 ≡ past1 ++ option_to_list o → length past2 ≡ length past + (number + 1)
+gone_more past past1 past2 None number h some e = cc
+gone_more past past1 past2 (Some c) number h some e = let more = ap length e ∙ length-append past1 (c ∷ []) in omega (arith, h, more)
+
+-- none more
+pub gone_same : (past past1 past2 : List Connection) (o : Option Connection) (number : ℕ) → length past1 ≡ length past + number → o ≡ None → past2 ≡ past1 ++ option_to_list o → length past2 ≡ length past + number
+gone_same past past1 past2 None number h none e = let more = ap length e ∙ length-append past1 [] in omega (arith, h, more)
+gone_same past past1 past2 (Some c) number h none e = cc
 
 -- ---- what is told of the connections to come
 

@@ -5,7 +5,7 @@ use Rattle.lab_outside.specs.Bytes.{Wrote}
 use Rattle.crdt_rows.specs.declared.version.Version.{Version}
 use Rattle.crdt_rows.specs.declared.body.Meta.{Meta}
 use Rattle.flow_model.specs.declared.flow.FlowEnd.{FlowEnd}
-use Rattle.flow_model.specs.declared.flow.FlowEnd.TheVariants.{Stored, Found, Nothing, Listed, Superseded}
+use Rattle.flow_model.specs.declared.flow.FlowEnd.TheVariants.{Stored, Found, Nothing, Listed, Superseded, Aborted}
 use Rattle.s3_model.specs.declared.ask.Range.{Range}
 use Rattle.s3_model.specs.declared.reply.Reply.TheVariants as reply
 use Rattle.s3_model.specs.declared.fault.Code.TheVariants.{InvalidRange}
@@ -130,6 +130,7 @@ module _ (r : Request) (range : Option Range) (asked : IsGetOf range r.ask) wher
     waited (Stored version meta) c d told says = let a = answer_to r.ask (Stored version meta) in replied had result c d a (ap (given_text r a) (sym told.all) ∙ none_given r a) says
     waited (Listed rows) c d told says = let a = answer_to r.ask (Listed rows) in replied had result c d a (ap (given_text r a) (sym told.all) ∙ none_given r a) says
     waited (Superseded id) c d told says = let a = answer_to r.ask (Superseded id) in replied had result c d a (ap (given_text r a) (sym told.all) ∙ none_given r a) says
+    waited Aborted c d told says = let a = answer_to r.ask Aborted in replied had result c d a (ap (given_text r a) (sym told.all) ∙ none_given r a) says
 
     waiting_says : (so_far : Option Given) (end : FlowEnd) (c d f : Connection) → ToldAll so_far had (Some end) → IsAt r range Waiting so_far c d → Replies had result d f (answer_to r.ask end)
         → Answers had result c f (answer_at r (with_given so_far (Some end)))
@@ -155,6 +156,7 @@ module _ (r : Request) (range : Option Range) (asked : IsGetOf range r.ask) wher
     refused g (Stored version meta) c d told none says = silent g (answer_to r.ask (Stored version meta)) c d told.all (answer_is (Stored version meta)) none says
     refused g (Listed rows) c d told none says = silent g (answer_to r.ask (Listed rows)) c d told.all (answer_is (Listed rows)) none says
     refused g (Superseded id) c d told none says = silent g (answer_to r.ask (Superseded id)) c d told.all (answer_is (Superseded id)) none says
+    refused g Aborted c d told none says = silent g (answer_to r.ask Aborted) c d told.all (answer_is Aborted) none says
 
     refused_says : (so_far : Option Given) (end : FlowEnd) (c d f : Connection) → ToldAll so_far had (Some end) → IsAt r range Refused so_far c d → Replies had result d f (answer_to r.ask end)
         → Answers had result c f (answer_at r (with_given so_far (Some end)))
@@ -197,7 +199,7 @@ module _ (r : Request) (range : Option Range) (asked : IsGetOf range r.ask) wher
     written_silent g portion a c d all e w =
         let P : List ℕ → Type 0 = Wrote c.written d.written in
         let same : text_with r range g ≡ begun_text r had = sym (begun_is g) ∙ ap (begun_text r) all in
-        subst (Answers had (Ok false) c d) (sym e) (said refl (subst P same w.wrote) w.unread w.counted)
+        subst (Answers had (Ok false) c d) (sym e) (said refl (subst P same w.wrote) w.unread w.steady)
 
     pub writing_silent : (so_far : Option Given) (portion : Portion) (c d : Connection) → ToldAll so_far had None → IsAt r range (Writing portion) so_far c d → Answers had (Ok false) c d answer.Nothing
     writing_silent None portion c d told at = absurd at
@@ -212,6 +214,7 @@ module _ (r : Request) (range : Option Range) (asked : IsGetOf range r.ask) wher
     writing_ends (Some g) portion (Stored version meta) c d other told at = written_silent g portion (answer_to r.ask (Stored version meta)) c d told.all (answer_is (Stored version meta)) at
     writing_ends (Some g) portion (Listed rows) c d other told at = written_silent g portion (answer_to r.ask (Listed rows)) c d told.all (answer_is (Listed rows)) at
     writing_ends (Some g) portion (Superseded id) c d other told at = written_silent g portion (answer_to r.ask (Superseded id)) c d told.all (answer_is (Superseded id)) at
+    writing_ends (Some g) portion Aborted c d other told at = written_silent g portion (answer_to r.ask Aborted) c d told.all (answer_is Aborted) at
 
     -- the link failed
     failed_says : (g : Given) (end : Option FlowEnd) (c d : Connection) → IsFirstOf (Some g) (given_with end had) → HasFailed r range g c d → Answers had (Ok false) c d (answer_at r end)

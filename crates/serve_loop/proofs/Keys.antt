@@ -26,6 +26,7 @@ use Rattle.serve_model.specs.declared.admitted.Admitted.{Admitted}
 use Rattle.serve_model.specs.declared.admitted.Signer.{Signer}
 use Rattle.serve_model.specs.Keys.{may}
 use Rattle.serve_model.specs.Admitting.{unless_long, if_signed, if_asked, signer, admitted}
+use Rattle.serve_model.specs.Clusters.{IsWhole}
 use Rattle.serve_model.specs.Judging.{IsKeyed, order_of}
 use Rattle.serve_loop.specs.Giving.{IsGetOf, IsNoGet, range_of}
 
@@ -52,6 +53,30 @@ orders_keyed (ask.Copy from bucket key headers) body k = copy_keyed bucket key h
 
 pub order_keyed : (a : Ask) (body : List ℕ) (o : Order) → IsKeyed a → Some o ≡ order_of a body → HasKey o
 order_keyed a body o k e = subst OrderKeyed (sym e) (orders_keyed a body k)
+
+-- ---- and it is whole: no ask's bytes are still to come
+
+abbrev pub OrderWhole : Option Order → Type 0
+OrderWhole None = ⊤
+OrderWhole (Some o) = IsWhole o
+
+copy_whole : (bucket key : List ℕ) (headers : Option (List (List ℕ × List ℕ))) (source : Option (List ℕ × List ℕ)) → OrderWhole (option_map (λ (s : List ℕ × List ℕ). order.Copy s.0 s.1 bucket key headers) source)
+copy_whole bucket key headers None = tt
+copy_whole bucket key headers (Some s) = tt
+
+orders_whole : (a : Ask) (body : List ℕ) → OrderWhole (order_of a body)
+orders_whole ask.ListBuckets body = tt
+orders_whole (ask.HeadBucket bucket) body = tt
+orders_whole (ask.List bucket list delimiter url token start) body = tt
+orders_whole (ask.BadList bucket) body = tt
+orders_whole (ask.Get bucket key range) body = tt
+orders_whole (ask.Head bucket key range) body = tt
+orders_whole (ask.Delete bucket key) body = tt
+orders_whole (ask.Put bucket key size md5 headers) body = tt
+orders_whole (ask.Copy from bucket key headers) body = copy_whole bucket key headers (source_of from)
+
+pub order_whole : (a : Ask) (body : List ℕ) (o : Order) → Some o ≡ order_of a body → IsWhole o
+order_whole a body o e = subst OrderWhole (sym e) (orders_whole a body)
 
 -- ---- which asks are gets
 

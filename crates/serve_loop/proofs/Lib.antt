@@ -9,4 +9,7 @@ pub mod Ending
 pub mod Getting
 pub mod Talking
 pub mod Connections
+pub mod Streams
+pub mod Uploading
+pub mod Parts
 pub mod Admits

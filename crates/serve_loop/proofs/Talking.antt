@@ -6,18 +6,17 @@ use Rattle.crdt_core.specs.Members.{OneOf}
 use Rattle.lab_outside.specs.Connection.{Connection, OnPresent}
 use Rattle.lab_outside.specs.Bytes.{Wrote, WrotePrefix}
 use Rattle.lab_outside.proofs.Bytes.{wrote_none, wrote_more, wrote_prefix_after}
-use Rattle.lab_outside.proofs.Rose.{rose_after}
-use Rattle.flow_model.specs.declared.order.Order.{Order}
+use Rattle.lab_outside.specs.Rose.{Rose}
 use Rattle.serve_model.specs.declared.buckets.Buckets.{Buckets}
 use Rattle.serve_model.specs.declared.served.Served.{Served}
 use Rattle.serve_model.specs.declared.served.ServeFault.{ServeFault}
 use Rattle.serve_model.specs.declared.served.ServeFault.TheVariants.{Kept, Number, Memory}
-use Rattle.serve_model.specs.Stores.{Store, Asking, after_orders, OrdersFit, Leads, Overflows, fits_asking, Known, OverflowsAmong, known_from}
+use Rattle.serve_model.specs.Stores.{Job, Store, Asking, after_jobs, JobsFit, Leads, Overflows, fits_asking, Known, OverflowsAmong, known_from}
 use Rattle.serve_model.specs.Talk.{Grammar, Serving, Next, goes, closes, exceeds, Stop, behind, Halt, behind_halt, begun_text, Turn, turn, Talk, go_on, talk}
-use Rattle.serve_model.specs.Serving.{HasState, Reached, Goes, Stands, Continues, ComesTo, ComesInto, CutOffAt, GivesUp, Serves, done, cut_off, limited, given_up, halted, OnLeft, ServesOn}
+use Rattle.serve_model.specs.Serving.{HasState, Reached, Goes, Stands, Continues, ComesTo, ComesInto, CutOffAt, GivesUp, IsLostAt, Serves, done, cut_off, limited, given_up, halted, OnLeft, ServesOn}
 use Rattle.serve_model.specs.Connections.{Talks, whole, cut_off as talk_cut, limited as talk_limited, given_up as talk_given_up, halted as talk_halted}
 use Rattle.serve_model.proofs.Ones.{one_left, one_right, one_mapped}
-use Rattle.serve_loop.proofs.Serving.{on_left, at_left, gives_up_for}
+use Rattle.serve_loop.proofs.Serving.{on_left, at_left, gives_up_for, steady_from}
 
 -- ---- the connection that is present
 
@@ -33,37 +32,37 @@ at_present U m n d f e k h =
     let Q : Option Connection → Type 0 = λ x. OnPresent U (Some d) x in
     subst Q k (subst P e h)
 
--- ---- orders and then orders
+-- ---- jobs and then jobs
 
-module _ {S : Type 0} (store : Store S) (fits : S → ℕ → Order → Type 0) where
-  after_append : (s : S) (xs ys : List (ℕ × Order)) → after_orders store s (xs ++ ys) ≡ after_orders store (after_orders store s xs) ys
+module _ {S : Type 0} (store : Store S) (fits : S → ℕ → Job → Type 0) where
+  after_append : (s : S) (xs ys : List (ℕ × Job)) → after_jobs store s (xs ++ ys) ≡ after_jobs store (after_jobs store s xs) ys
   after_append s [] ys = refl
   after_append s (x ∷ xs) ys = after_append (store.carries s x.0 x.1).state xs ys
 
-  fit_append : (s : S) (xs ys : List (ℕ × Order)) → OrdersFit store fits s xs → OrdersFit store fits (after_orders store s xs) ys → OrdersFit store fits s (xs ++ ys)
+  fit_append : (s : S) (xs ys : List (ℕ × Job)) → JobsFit store fits s xs → JobsFit store fits (after_jobs store s xs) ys → JobsFit store fits s (xs ++ ys)
   fit_append s [] ys f h = h
   fit_append s (x ∷ xs) ys f h = (f.0, fit_append (store.carries s x.0 x.1).state xs ys f.1 h)
 
   pub leads_more : (s t u : S) → Leads store fits s t → Leads store fits t u → Leads store fits s u
   leads_more s t u a b =
-      let P : S → Type 0 = λ x. OrdersFit store fits x b.orders in
+      let P : S → Type 0 = λ x. JobsFit store fits x b.jobs in
       record {
-        orders = a.orders ++ b.orders;
-        after = b.after ∙ ap (λ x. after_orders store x b.orders) a.after ∙ sym (after_append s a.orders b.orders);
-        fit = fit_append s a.orders b.orders a.fit (subst P a.after b.fit);
+        jobs = a.jobs ++ b.jobs;
+        after = b.after ∙ ap (λ x. after_jobs store x b.jobs) a.after ∙ sym (after_append s a.jobs b.jobs);
+        fit = fit_append s a.jobs b.jobs a.fit (subst P a.after b.fit);
       }
 
-module _ {S : Type 0} (store : Store S) (fits lacks : S → ℕ → Order → Type 0) where
+module _ {S : Type 0} (store : Store S) (fits lacks : S → ℕ → Job → Type 0) where
   pub reached_more : (holds : S → Type 0) (s t u : S) → Leads store fits s t → Reached store fits lacks holds t u → Reached store fits lacks holds s u
   reached_more holds s t u a b = (b.0, leads_more store fits s t u a b.1)
 
   pub overflows_more : (s t : S) → Leads store fits s t → Overflows store fits lacks t → Overflows store fits lacks s
   overflows_more s t a o = record { asking = o.asking; leads = leads_more store fits s t o.asking.state a o.leads; overflows = o.overflows }
 
-  -- an order among these has no room, and they are among those
+  -- a job among these has no room, or to give its upload up has none, and they are among those
   pub among_more : (s t : S) (xs ys : List (Asking S)) → Leads store fits s t → ((x : Asking S) → Contains xs x → Contains ys x) → OverflowsAmong store fits lacks t xs → OverflowsAmong store fits lacks s ys
   unfolding overflows_more
-  among_more s t xs ys a f o = record { at = overflows_more s t a o.at; is_asked = f o.at.asking o.is_asked }
+  among_more s t xs ys a f o = record { at = overflows_more s t a o.at; asking = o.asking; is_asked = f o.asking o.is_asked; is_of = o.is_of }
 
   -- something follows
   pub goes_more : (A : Type 0) (old mid new : S → Type 0) (r : Result A ServeFault) → ((s : S) → old s → HasState (Reached store fits lacks mid s)) → Goes store fits lacks {A = A} mid new r → Goes store fits lacks {A = A} old new r
@@ -105,7 +104,7 @@ module _ {X : Type 0} where
 
 module _ {S : Type 0} (text : List ℕ) (asks : List (Asking S)) (text' : List ℕ) (asks' : List (Asking S)) where
   stop_twice : (x : Stop S) → behind text asks (behind text' asks' x) ≡ behind (text ++ text') (asks ++ asks') x
-  stop_twice x = ap₂ (λ t a. record { text = t; asks = a; serving = x.serving }) (sym (append_assoc text text' x.text)) (sym (append_assoc asks asks' x.asks))
+  stop_twice x = ap₂ (λ t a. record { text = t; asks = a; serving = x.serving; uploads = x.uploads }) (sym (append_assoc text text' x.text)) (sym (append_assoc asks asks' x.asks))
 
   halt_twice : (x : Halt S) → behind_halt text asks (behind_halt text' asks' x) ≡ behind_halt (text ++ text') (asks ++ asks') x
   halt_twice x = ap₂ (λ t a. record { text = t; asks = a; request = x.request; asking = x.asking }) (sym (append_assoc text text' x.text)) (sym (append_assoc asks asks' x.asks))
@@ -204,7 +203,7 @@ module _ {S : Type 0} (store : Store S) (buckets : Buckets) (g : Grammar) where
 
 -- ---- so far
 
--- so far a first part of what is stated of all bytes was written, each order that the store was asked fits, and what is stated of the rest is to come
+-- so far a first part of what is stated of all bytes was written, each job that the store was asked fits, and what is stated of the rest is to come
 pub record InTalk {S : Type 0} (store : Store S) (FitsIt : Asking S → Type 0) (buckets : Buckets) (g : Grammar) (all : Talk S) (holds : S → Type 0) (times : Option (List ℕ)) (served : Served) (more : ℕ) (kept : List ℕ) (c d : Connection) : Type 0 where
   pub text : List ℕ
   pub stops : List (Stop S)
@@ -216,7 +215,7 @@ pub record InTalk {S : Type 0} (store : Store S) (FitsIt : Asking S → Type 0) 
   pub wrote : Wrote c.written d.written text
   pub fit : AllByRecursion FitsIt asks
   pub stands : Stands holds times served serving
-  pub counted : c.faults ≤ d.faults
+  pub steady : d.faults ≡ c.faults
   pub is : all ≡ prefixed text stops halts asks (talk store buckets g more serving (kept ++ left))
 
 map_none : {X : Type 0} (f : X → X) → ((x : X) → f x ≡ x) → (xs : List X) → map f xs ≡ xs
@@ -240,11 +239,11 @@ module _ {S : Type 0} (store : Store S) (FitsIt : Asking S → Type 0) (buckets 
         wrote = wrote_none c.written;
         fit = tt;
         stands = st;
-        counted = omega arith;
+        steady = refl;
         is = ap (λ n. talk store buckets g n p bytes) (sym all) ∙ ap (λ k. talk store buckets g more p (k ++ bytes)) (sym none) ∙ sym (prefixed_none (talk store buckets g more p (kept ++ bytes)));
       }
 
-module _ {S : Type 0} (store : Store S) (fits lacks : S → ℕ → Order → Type 0) (buckets : Buckets) (g : Grammar) (all : Talk S) (start : S) (more : ℕ) (kept kept' : List ℕ) (holds holds' : S → Type 0) (times times' : Option (List ℕ)) (served served' : Served) (c d f : Connection)
+module _ {S : Type 0} (store : Store S) (fits lacks : S → ℕ → Job → Type 0) (buckets : Buckets) (g : Grammar) (all : Talk S) (start : S) (more : ℕ) (kept kept' : List ℕ) (holds holds' : S → Type 0) (times times' : Option (List ℕ)) (served served' : Served) (c d f : Connection)
     (i : InTalk store (fits_asking fits) buckets g all (Reached store fits lacks holds start) times served (suc more) kept c d) where
   abbrev pub Follows : Result Bool ServeFault → Type 0
   Follows r = Serves (turn store buckets g (more == 0) i.serving (kept ++ i.left)) (Reached store fits lacks holds' i.serving.store) (known_from store fits lacks i.serving.store) times' served' r kept' d f
@@ -267,7 +266,7 @@ module _ {S : Type 0} (store : Store S) (fits lacks : S → ℕ → Order → Ty
         wrote = wrote_more c.written d.written f.written i.text t.text i.wrote w;
         fit = all_append (fits_asking fits) i.asks t.asks i.fit asked;
         stands = stands_more store fits lacks holds' times' served' start i.serving.store t.serving i.stands.store.1 st;
-        counted = omega (arith, i.counted, n);
+        steady = n ∙ i.steady;
         is = i.is ∙ ap (prefixed i.text i.stops i.halts i.asks) next ∙ prefixed_twice i.text i.asks t.text t.asks i.stops i.halts t.stops t.halts u;
       }
   talk_goes_on (cut_off err n at) = absurd (true_is_false (same_ok (Ok true) true false refl err))
@@ -322,9 +321,9 @@ module _ {S : Type 0} (store : Store S) (fits lacks : S → ℕ → Order → Ty
       let off : talk store buckets g (suc more) i.serving (kept ++ i.left) ≡ record { text = t.text; stops = t.stops; halts = t.halts; asks = t.asks; serving = t.serving; is_over = false } = talk_with store buckets g more i.serving (kept ++ i.left) closes (ends_here t.next kept' f.left on (same_ok (Ok false) false on refl ok) go) in
       let is : all ≡ record { text = i.text ++ t.text; stops = i.stops ++ map (behind i.text i.asks) t.stops; halts = i.halts ++ map (behind_halt i.text i.asks) t.halts; asks = i.asks ++ t.asks; serving = t.serving; is_over = false } = i.is ∙ ap (prefixed i.text i.stops i.halts i.asks) off in
       let P : Talk S → Type 0 = λ x. Talks x (Reached store fits lacks holds' start) (known_from store fits lacks start) times' served' (Ok tt) c f in
-      subst P (sym is) (whole refl refl (wrote_more c.written d.written f.written i.text t.text i.wrote w) (all_append (fits_asking fits) i.asks t.asks i.fit asked) (stands_more store fits lacks holds' times' served' start i.serving.store t.serving i.stands.store.1 st) (omega (arith, i.counted, n)))
+      subst P (sym is) (whole refl refl (wrote_more c.written d.written f.written i.text t.text i.wrote w) (all_append (fits_asking fits) i.asks t.asks i.fit asked) (stands_more store fits lacks holds' times' served' start i.serving.store t.serving i.stands.store.1 st) (n ∙ i.steady))
   talk_ends (cut_off ok n at) =
-      talk_cut refl (rose_after c.faults d.faults f.faults i.counted n)
+      talk_cut refl (subst (λ k. Rose k f.faults) i.steady n)
       (stops_of_all (CutOffAt (fits_asking fits) (Reached store fits lacks holds' i.serving.store) times' served' d f) (CutOffAt (fits_asking fits) (Reached store fits lacks holds' start) times' served' c f) cut_off_there at)
   talk_ends (limited err next w asked n) = absurd (ok_is_no_error (Ok false) false Kept refl err)
   talk_ends (given_up m err why at n) = absurd (ok_is_no_error (Ok false) false m refl err)
@@ -339,15 +338,16 @@ module _ {S : Type 0} (store : Store S) (fits lacks : S → ℕ → Order → Ty
       let over : talk store buckets g (suc more) i.serving (kept ++ i.left) ≡ record { text = t.text; stops = t.stops; halts = t.halts; asks = t.asks; serving = t.serving; is_over = true } = talk_with store buckets g more i.serving (kept ++ i.left) exceeds next in
       let is : all ≡ record { text = i.text ++ t.text; stops = i.stops ++ map (behind i.text i.asks) t.stops; halts = i.halts ++ map (behind_halt i.text i.asks) t.halts; asks = i.asks ++ t.asks; serving = t.serving; is_over = true } = i.is ∙ ap (prefixed i.text i.stops i.halts i.asks) over in
       let P : Talk S → Type 0 = λ x. Talks x (Reached store fits lacks holds' start) (known_from store fits lacks start) times' served' (Err e) c f in
-      subst P (sym is) (talk_limited (ap Err (same_err (Err e) e Kept refl err)) refl (wrote_more c.written d.written f.written i.text t.text i.wrote w) (all_append (fits_asking fits) i.asks t.asks i.fit asked) (omega (arith, i.counted, n)))
+      subst P (sym is) (talk_limited (ap Err (same_err (Err e) e Kept refl err)) refl (wrote_more c.written d.written f.written i.text t.text i.wrote w) (all_append (fits_asking fits) i.asks t.asks i.fit asked) (n ∙ i.steady))
   talk_stops e (given_up m err why at n) =
       let same : e ≡ m = same_err (Err e) e m refl err in
       let Q : ServeFault → Type 0 = GivesUp (OverflowsAmong store fits lacks start) all.asks in
-      talk_given_up e refl (subst Q (sym same) (why_of_all m why)) (stops_of_all (ComesTo (fits_asking fits) d f) (ComesTo (fits_asking fits) c f) comes_so_far at) (omega (arith, i.counted, n))
+      talk_given_up e refl (subst Q (sym same) (why_of_all m why)) (stops_of_all (ComesTo (fits_asking fits) d f) (ComesTo (fits_asking fits) c f) comes_so_far at)
+      (steady_from (fits_asking fits) (turn store buckets g (more == 0) i.serving (kept ++ i.left)).stops all.stops c d f i.steady (stops_of_all (IsLostAt (fits_asking fits) d f) (IsLostAt (fits_asking fits) c f) (λ stop h. (comes_so_far stop h.0, h.1))) n)
   talk_stops e (halted m err why at n) =
       let same : e ≡ m = same_err (Err e) e m refl err in
       let Q : ServeFault → Type 0 = GivesUp (OverflowsAmong store fits lacks start) all.asks in
-      talk_halted e refl (subst Q (sym same) (why_of_all m why)) (halts_of_all (ComesInto (known_from store fits lacks i.serving.store) d f) (ComesInto (known_from store fits lacks start) c f) into_so_far at) (omega (arith, i.counted, n))
+      talk_halted e refl (subst Q (sym same) (why_of_all m why)) (halts_of_all (ComesInto (known_from store fits lacks i.serving.store) d f) (ComesInto (known_from store fits lacks start) c f) into_so_far at) (let same = i.steady in omega (arith, same, n))
 
 -- as many requests were answered as one connection may have
 module _ {S : Type 0} (store : Store S) (buckets : Buckets) (g : Grammar) where
@@ -357,12 +357,12 @@ module _ {S : Type 0} (store : Store S) (buckets : Buckets) (g : Grammar) where
       let is : all ≡ record { text = i.text ++ []; stops = i.stops ++ []; halts = i.halts ++ []; asks = i.asks ++ []; serving = i.serving; is_over = false } = i.is ∙ ap (prefixed i.text i.stops i.halts i.asks) rest in
       let P : Talk S → Type 0 = λ x. Talks x holds known times served (Ok tt) c d in
       let Q : List ℕ → Type 0 = Wrote c.written d.written in
-      subst P (sym is) (whole refl refl (subst Q (sym (append-nil i.text)) i.wrote) (all_append known.fits i.asks [] i.fit tt) i.stands i.counted)
+      subst P (sym is) (whole refl refl (subst Q (sym (append-nil i.text)) i.wrote) (all_append known.fits i.asks [] i.fit tt) i.stands i.steady)
 
 -- ---- over the connection that is present
 
 -- a turn more, whatever is to follow from it
-module _ {S : Type 0} (store : Store S) (fits lacks : S → ℕ → Order → Type 0) (buckets : Buckets) (g : Grammar) (all : List ℕ → Talk S) (start : S) (more n : ℕ) (kept kept' : List ℕ) (holds holds' : S → Type 0) (times times' : Option (List ℕ)) (served served' : Served) (r : Result Bool ServeFault) (Next' : List ℕ → Connection → Connection → Type 0) (o m k : Option Connection) where
+module _ {S : Type 0} (store : Store S) (fits lacks : S → ℕ → Job → Type 0) (buckets : Buckets) (g : Grammar) (all : List ℕ → Talk S) (start : S) (more n : ℕ) (kept kept' : List ℕ) (holds holds' : S → Type 0) (times times' : Option (List ℕ)) (served served' : Served) (r : Result Bool ServeFault) (Next' : List ℕ → Connection → Connection → Type 0) (o m k : Option Connection) where
   pub turn_then : n ≡ suc more → OnPresent (λ c d. OnLeft (λ left. InTalk store (fits_asking fits) buckets g (all left) (Reached store fits lacks holds start) times served n kept c d) c.left) o m → IsSome k
       → ((q : Serving S) → Stands holds times served q → ServesOn (λ left. turn store buckets g (more == 0) q (kept ++ left)) (Reached store fits lacks holds' q.store) (known_from store fits lacks q.store) times' served' r kept' m k)
       → ((left : List ℕ) (c d f : Connection) (i : InTalk store (fits_asking fits) buckets g (all left) (Reached store fits lacks holds start) times served (suc more) kept c d) → Follows store fits lacks buckets g (all left) start more kept kept' holds holds' times times' served served' c d f i r → Next' left c f)

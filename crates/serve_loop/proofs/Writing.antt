@@ -3,15 +3,11 @@ use Rattle.std.proofs.Common.{◌≡◌, ℕ, Bool, false, not, Option, Some, No
 use Rattle.lab_outside.specs.Connection.{Connection}
 use Rattle.lab_outside.specs.Bytes.{Wrote, WrotePrefix}
 use Rattle.lab_outside.proofs.Bytes.{wrote_more, wrote_prefix_after, wrote_prefix_more, wrote_prefix_whole}
-use Rattle.lab_outside.proofs.Rose.{rose_after}
-use Rattle.crdt_rows.specs.declared.version.Version.{Version}
-use Rattle.crdt_rows.specs.declared.body.Meta.{Meta}
+use Rattle.lab_outside.specs.Rose.{Rose}
 use Rattle.s3_model.specs.declared.ask.Ask.TheVariants as ask
 use Rattle.s3_model.specs.declared.ask.Range.{Range}
-use Rattle.s3_model.specs.Answer.{found_text}
 use Rattle.s3_answer.specs.declared.portion.Portion.{Portion}
-use Rattle.s3_answer.specs.Portions.{taken, portion_of}
-use Rattle.s3_answer.proofs.Portions.{head_then}
+use Rattle.s3_answer.specs.Portions.{taken}
 use Rattle.serve_model.specs.declared.request.Request.{Request}
 use Rattle.serve_model.specs.Stores.{Given}
 use Rattle.serve_model.specs.Connections.{IsPrefixOf}
@@ -20,7 +16,7 @@ use Rattle.serve_model.specs.Serving.{said, cut_short}
 use Rattle.serve_model.proofs.Giving.{first_got}
 use Rattle.serve_loop.specs.declared.giving.Progress.{Progress}
 use Rattle.serve_loop.specs.declared.giving.Progress.TheVariants.{Waiting, Refused, Writing, Failed}
-use Rattle.serve_loop.specs.Gets.{found_now, with_piece}
+use Rattle.serve_loop.specs.Gets.{with_piece}
 use Rattle.serve_loop.specs.Giving.{Sends, sent, unsent, text_with, HasRefused, HasWritten, HasFailed, IsAt, EndsWith, says, stops}
 
 -- ---- texts
@@ -48,25 +44,6 @@ module _ (r : Request) (range : Option Range) where
 
   -- ---- the head, and pieces
 
-  pub begun_at : (version : Version) (meta : Meta) (portion : Portion) (head : List ℕ) (progress : Progress) (c d : Connection) → portion_of range meta.size ≡ Some portion → head ≡ found_text range version meta [] r.time r.closes
-      → Sends portion head progress c d → IsAt r range progress (Some (found_now version meta)) c d
-  begun_at version meta portion head progress c d is same (sent e w) =
-      let P : Progress → Type 0 = λ x. IsAt r range x (Some (found_now version meta)) c d in
-      let Q : List ℕ → Type 0 = Wrote c.written d.written in
-      subst P (sym e)
-      (record {
-        whole = portion;
-        some = is;
-        later = λ more. head_then version meta more r.time r.closes range portion is;
-        wrote = subst Q same w.ok;
-        unread = w.unread;
-        counted = w.counted;
-      })
-  begun_at version meta portion head progress c d is same (unsent failed e w) =
-      let P : Progress → Type 0 = λ x. IsAt r range x (Some (found_now version meta)) c d in
-      let Q : List ℕ → Type 0 = WrotePrefix c.written d.written in
-      subst P (sym e) (record { part = subst Q same w.err; rose = w.fault; counted = w.counted })
-
   module _ (g : Given) (piece : List ℕ) where
     -- a piece was sent
     pub sent_on : (bytes : List ℕ) (portion later : Portion) (progress : Progress) (c d f : Connection) → bytes ≡ taken portion piece → ((more : List ℕ) → taken portion (piece ++ more) ≡ bytes ++ taken later more)
@@ -81,7 +58,7 @@ module _ (r : Request) (range : Option Range) where
           later = goes_then g piece bytes portion later is next was.later;
           wrote = subst Q (text_then g piece bytes portion later is next was.later) (wrote_more c.written d.written f.written (text_with r range g) bytes was.wrote w.ok);
           unread = w.unread ∙ was.unread;
-          counted = omega (arith, was.counted, w.counted);
+          steady = w.steady ∙ was.steady;
         })
     sent_on bytes portion later progress c d f is next was (unsent failed e w) =
         let P : Progress → Type 0 = λ x. IsAt r range x (Some (with_piece g piece)) c f in
@@ -89,8 +66,8 @@ module _ (r : Request) (range : Option Range) where
         subst P (sym e)
         (record {
           part = subst Q (text_then g piece bytes portion later is next was.later) (wrote_prefix_after c.written d.written f.written (text_with r range g) bytes was.wrote w.err);
-          rose = rose_after c.faults d.faults f.faults was.counted w.fault;
-          counted = omega (arith, was.counted, w.counted);
+          rose = subst (λ k. Rose k f.faults) was.steady w.fault;
+          counted = (let same = was.steady in let le = w.counted in omega (arith, same, le));
         })
 
     -- nothing more is written
@@ -112,10 +89,10 @@ module _ (r : Request) (range : Option Range) where
   module _ (g : Given) (rest : List ℕ) (portion : Portion) where
     -- memory was wanting for it
     pub rest_wants : (close : Bool) (c d : Connection) → HasWritten r range g portion c d → EndsWith (text_with r range (with_piece g rest)) close (Err Memory) c d
-    rest_wants close c d w = stops refl (longer c.written d.written (text_with r range g) (text_with r range (with_piece g rest)) (text_more g rest) (wrote_prefix_whole c.written d.written (text_with r range g) w.wrote)) w.counted
+    rest_wants close c d w = stops refl (longer c.written d.written (text_with r range g) (text_with r range (with_piece g rest)) (text_more g rest) (wrote_prefix_whole c.written d.written (text_with r range g) w.wrote)) w.steady
 
     pub rest_written : (later : Portion) (close : Bool) (c d : Connection) → HasWritten r range (with_piece g rest) later c d → EndsWith (text_with r range (with_piece g rest)) close (Ok (not close)) c d
-    rest_written later close c d w = says (said refl w.wrote w.unread w.counted)
+    rest_written later close c d w = says (said refl w.wrote w.unread w.steady)
 
     rest_failed : (close : Bool) (c d : Connection) → HasFailed r range (with_piece g rest) c d → EndsWith (text_with r range (with_piece g rest)) close (Ok false) c d
     rest_failed close c d h = says (cut_short refl h.part h.rose)

@@ -60,7 +60,7 @@ module _ (r : Request) (range : Option Range) where
     pub later : (more : List ℕ) → text_with (with_piece g more) ≡ text_with g ++ taken portion more
     pub wrote : Wrote c.written d.written (text_with g)
     pub unread : d.left ≡ c.left
-    pub counted : c.faults ≤ d.faults
+    pub steady : d.faults ≡ c.faults
 
   -- the link failed: a first part of that answer was written
   pub record HasFailed (g : Given) (c d : Connection) : Type 0 where
@@ -89,7 +89,7 @@ pub record ToldAll (so_far begun : Option Given) (end : Option FlowEnd) : Type 0
   pub first : IsFirstOf so_far (given_with (with_given so_far end) begun)
   pub all : GaveAll so_far (given_with (with_given so_far end) begun) end
 
--- an answer was written, or not whole, as the link failed; or a first part of it is all, as memory was wanting
+-- an answer was written, or not whole, as the link failed; or a first part of it is all, as memory was wanting, and no call failed
 pub data EndsWith (text : List ℕ) (close : Bool) (result : Result Bool ServeFault) (c d : Connection) : Type 0 where
   says : Says text close result c d → EndsWith text close result c d
-  stops : result ≡ Err Memory → WrotePrefix c.written d.written text → c.faults ≤ d.faults → EndsWith text close result c d
+  stops : result ≡ Err Memory → WrotePrefix c.written d.written text → d.faults ≡ c.faults → EndsWith text close result c d

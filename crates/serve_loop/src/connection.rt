@@ -1,6 +1,7 @@
 //! One connection, served.
 ghost use Rattle.std.specs.Prelude.{IsSome};
-ghost use Rattle.lab_outside.specs.Connection.{OnPresent, Stays};
+ghost use Rattle.lab_outside.specs.Connection.{OnPresent};
+ghost use Rattle.lab_outside.specs.Links.{Stays};
 ghost use Rattle.serve_model.specs.Stores.{known_from};
 ghost use Rattle.serve_model.specs.Talk.{Grammar, Serving, request_limit, talk};
 ghost use Rattle.serve_model.specs.Serving.{HasState, Reached, Goes, Stands, OnLeft};
@@ -31,7 +32,7 @@ pub(crate) fn serve_connection<S: Storage, L: Link, C: Clock>(
     ensures talks { (g : Grammar) (p : Serving S.State) → Stands (S.stands store.old) (C.times clock.old) served.old p →
         OnPresent (λ c d. OnLeft (λ left. Talks (talk S.model buckets.now g request_limit p left) (Reached S.model S.fits S.lacks (S.stands store.new) p.store) (known_from S.model S.fits S.lacks p.store) (C.times clock.new) served.new result c d) c.left) (L.present link.old) (L.present link.new) }
     ensures goes { Goes S.model S.fits S.lacks (S.stands store.old) (S.stands store.new) result }
-    ensures stays { Stays (L.coming link.old) (L.coming link.new) (L.past link.old) (L.past link.new) (L.faults link.old) (L.faults link.new) }
+    ensures stays { Stays L.Link link.old link.new }
 {
     let mut kept = Kept::new(alloc);
     let mut more = REQUEST_LIMIT;

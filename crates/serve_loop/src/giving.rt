@@ -1,6 +1,7 @@
 //! Gets, whose answers are written as their bytes come.
 ghost use Rattle.std.specs.Prelude.{◌≡◌, ◌≤◌, ℕ, List, ◌++◌, Option, Some, IsSome, IfOk, IfErr, OnErr};
-ghost use Rattle.lab_outside.specs.Connection.{Connection, OnPresent, Stays};
+ghost use Rattle.lab_outside.specs.Connection.{Connection, OnPresent};
+ghost use Rattle.lab_outside.specs.Links.{Stays};
 ghost use Rattle.flow_model.specs.declared.order.Order.TheVariants.{Get};
 ghost use Rattle.s3_model.specs.declared.ask.Range.{Range as AskedRange};
 ghost use Rattle.serve_model.specs.declared.request.Request.{Request as Asked};
@@ -42,7 +43,7 @@ fn send<L: Link>(link: &mut L, portion: Portion, bytes: &[u8]) -> Progress
     requires { IsSome (L.present link.old) }
     ensures present { IsSome (L.present link.new) }
     ensures sends { OnPresent (Sends portion bytes.now result) (L.present link.old) (L.present link.new) }
-    ensures stays { Stays (L.coming link.old) (L.coming link.new) (L.past link.old) (L.past link.new) (L.faults link.old) (L.faults link.new) }
+    ensures stays { Stays L.Link link.old link.new }
 {
     match send_whole(link, bytes) {
         Ok(()) => Progress::Writing(portion),
@@ -64,7 +65,7 @@ fn begin_answer<L: Link>(
     ensures written { IfOk result (λ progress. OnPresent (IsAt request.now range progress (Some (found_now version meta.now))) (L.present link.old) (L.present link.new)) }
     ensures unwritten { OnErr result (L.present link.new ≡ L.present link.old) }
     ensures cause { IfErr result (λ e. e ≡ Wanting) }
-    ensures stays { Stays (L.coming link.old) (L.coming link.new) (L.past link.old) (L.past link.new) (L.faults link.old) (L.faults link.new) }
+    ensures stays { Stays L.Link link.old link.new }
 {
     let Some(portion) = Portion::of(range, meta.size) else {
         return Ok(Progress::Refused);
@@ -81,7 +82,7 @@ fn write_piece<L: Link>(link: &mut L, progress: Progress, piece: &[u8]) -> Progr
     ensures present { IsSome (L.present link.new) }
     ensures written { (r : Asked) (range : Option AskedRange) (g : Given) (start : Option Connection) → OnPresent (IsAt r range progress (Some g)) start (L.present link.old) →
         OnPresent (IsAt r range result (Some (with_piece g piece.now))) start (L.present link.new) }
-    ensures stays { Stays (L.coming link.old) (L.coming link.new) (L.past link.old) (L.past link.new) (L.faults link.old) (L.faults link.new) }
+    ensures stays { Stays L.Link link.old link.new }
 {
     match progress {
         Progress::Writing(portion) => {
@@ -104,7 +105,7 @@ fn end_object<L: Link>(
     ensures ends { (range : Option AskedRange) (g : Given) (start : Option Connection) → OnPresent (HasWritten request.now range g portion) start (L.present link.old) →
         OnPresent (EndsWith (text_with request.now range (with_piece g rest)) request.now.closes result) start (L.present link.new) }
     ensures cause { IfErr result (λ e. e ≡ Wanting) }
-    ensures stays { Stays (L.coming link.old) (L.coming link.new) (L.past link.old) (L.past link.new) (L.faults link.old) (L.faults link.new) }
+    ensures stays { Stays L.Link link.old link.new }
 {
     let rest = match rest.into_bytes() {
         Ok(rest) => rest,
@@ -128,7 +129,7 @@ fn end_begun<L: Link>(
     ensures ends { (range : Option AskedRange) (so_far begun : Option Given) (start : Option Connection) → IsGetOf range request.now.ask → ToldAll so_far begun end → OnPresent (IsAt request.now range (Progress.Writing portion) so_far) start (L.present link.old) →
         (let a = answer_at request.now (with_given so_far end) in OnPresent (EndsWith (given_text request.now a begun) (closes_of request.now a) result) start (L.present link.new)) }
     ensures cause { IfErr result (λ e. e ≡ Wanting) }
-    ensures stays { Stays (L.coming link.old) (L.coming link.new) (L.past link.old) (L.past link.new) (L.faults link.old) (L.faults link.new) }
+    ensures stays { Stays L.Link link.old link.new }
 {
     match end {
         Some(FlowEnd::Found { body, .. }) => end_object(link, request, portion, body),
@@ -147,7 +148,7 @@ fn answer_at_end<L: Link>(
     ensures present { IsSome (L.present link.new) }
     ensures says { SaysOn (text_of request.now (answer_at request.now end)) (closes_of request.now (answer_at request.now end)) result (L.present link.old) (L.present link.new) }
     ensures cause { IfErr result (λ e. e ≡ Wanting) }
-    ensures stays { Stays (L.coming link.old) (L.coming link.new) (L.past link.old) (L.past link.new) (L.faults link.old) (L.faults link.new) }
+    ensures stays { Stays L.Link link.old link.new }
 {
     match end {
         Some(end) => answer_end(alloc, link, request, end),
@@ -168,7 +169,7 @@ fn end_answer<L: Link>(
     ensures ends { (range : Option AskedRange) (so_far begun : Option Given) (start : Option Connection) → IsGetOf range request.now.ask → ToldAll so_far begun end → OnPresent (IsAt request.now range progress so_far) start (L.present link.old) →
         (let a = answer_at request.now (with_given so_far end) in OnPresent (EndsWith (given_text request.now a begun) (closes_of request.now a) result) start (L.present link.new)) }
     ensures cause { IfErr result (λ e. e ≡ Wanting) }
-    ensures stays { Stays (L.coming link.old) (L.coming link.new) (L.past link.old) (L.past link.new) (L.faults link.old) (L.faults link.new) }
+    ensures stays { Stays L.Link link.old link.new }
 {
     match progress {
         Progress::Waiting | Progress::Refused => answer_at_end(alloc, link, request, end),
@@ -195,7 +196,7 @@ pub(crate) fn get<S: Storage, L: Link>(
     ensures serves { (p : Serving S.State) (times : Option (List ℕ)) (served : Served) (kept : List ℕ) → Stands (S.stands store.old) times served p → served.kept ≤ kept_limit →
         ServesOn (λ left. order_turn S.model request.now (Get bucket key) p (kept ++ left)) (Reached S.model S.fits S.lacks (S.stands store.new) p.store) (known_from S.model S.fits S.lacks p.store) times served result kept (L.present link.old) (L.present link.new) }
     ensures goes { Goes S.model S.fits S.lacks (S.stands store.old) (S.stands store.new) result }
-    ensures stays { Stays (L.coming link.old) (L.coming link.new) (L.past link.old) (L.past link.new) (L.faults link.old) (L.faults link.new) }
+    ensures stays { Stays L.Link link.old link.new }
 {
     match store.begin(request.time, bucket, key) {
         Ok(()) => {}

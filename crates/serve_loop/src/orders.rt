@@ -3,15 +3,46 @@ ghost use Rattle.std.specs.Prelude.{◌≡◌, Some, option_map, IfOk};
 ghost use Rattle.crdt_core.specs.Outcomes.{OnlyWant};
 ghost use Rattle.flow_model.specs.declared.order.Order.TheVariants as asked;
 ghost use Rattle.s3_model.specs.Sources.{source_of};
-ghost use Rattle.serve_model.specs.Judging.{order_of, shown_to, reply_without};
+ghost use Rattle.serve_model.specs.Judging.{upload_of, order_of, shown_to, reply_without};
 
 use crate::admitting::may_read;
+use crate::judging::{is_long, is_missing};
 use crdt_core::{Bytes, List, Memory, Value};
 use flow_model::Order;
 use s3_model::{Ask, Reply};
 use s3_request::copy_source;
-use serve_model::Buckets;
+use serve_model::{Buckets, Request, Upload};
 use std::alloc::Global;
+
+/// Objects of so many bytes and more are kept in blocks.
+const INLINE_LIMIT: u64 = 3072;
+
+/// The upload whose bytes are taken block by block, if a request is one.
+pub(crate) fn upload(buckets: &Buckets, request: &Request) -> Result<Option<Upload>, Memory>
+    ensures same { IfOk result (λ upload. upload ≡ upload_of buckets.now request.now) }
+    ensures want { OnlyWant result }
+{
+    let Ask::Put {
+        bucket,
+        key,
+        headers,
+        ..
+    } = &request.ask
+    else {
+        return Ok(None);
+    };
+    let is_long_body = request.length >= INLINE_LIMIT;
+    let is_refused = is_missing(&buckets.names, Some(bucket.as_slice())) || is_long(key.as_slice());
+    if !(is_long_body && !is_refused) {
+        return Ok(None);
+    }
+    Ok(Some(Upload {
+        bucket: bucket.copy()?,
+        key: key.copy()?,
+        length: request.length,
+        headers: headers.copy()?,
+    }))
+}
 
 // A copy of these headers, if there are some.
 fn copy_headers(

@@ -1,13 +1,15 @@
 //! One request, served.
 ghost use Rattle.std.specs.Prelude.{◌≡◌, ◌≤◌, ℕ, List, ◌++◌, ◌||◌, max, min, true, codes, Option, Some, Ok, IsSome, IfOk, IfErr};
 ghost use Rattle.crdt_core.specs.Outcomes.{OnlyWant};
-ghost use Rattle.lab_outside.specs.Connection.{OnPresent, Stays};
+ghost use Rattle.lab_outside.specs.Connection.{OnPresent};
+ghost use Rattle.lab_outside.specs.Links.{Stays};
 ghost use Rattle.store_model.specs.Acts.{HasKey};
 ghost use Rattle.s3_model.specs.Asks.{is_method};
 ghost use Rattle.serve_model.specs.declared.served.ServeFault.TheVariants.{Memory as Wanting};
-ghost use Rattle.serve_model.specs.Judging.{IsKeyed, order_of, reply_without};
+ghost use Rattle.serve_model.specs.Clusters.{IsWhole};
+ghost use Rattle.serve_model.specs.Judging.{IsKeyed, upload_of, order_of, reply_without};
 ghost use Rattle.serve_model.specs.Stores.{known_from};
-ghost use Rattle.serve_model.specs.Talk.{Grammar, Serving, kept_limit, first_of, later_of, time_from, request_of, path_shown as path_of_refusal, interim as interim_of, bad_head, head_refusal, text_of, closes_of, clocked, order_turn, plan_turn, whole_turn, body_turn, waiting_turn, request_turn, head_turn, turn};
+ghost use Rattle.serve_model.specs.Talk.{Grammar, Serving, kept_limit, first_of, later_of, time_from, request_of, path_shown as path_of_refusal, interim as interim_of, bad_head, head_refusal, text_of, closes_of, clocked, order_turn, plan_turn, whole_turn, body_turn, coming_turn, waiting_turn, request_turn, head_turn, turn};
 ghost use Rattle.serve_model.specs.Serving.{HasState, Reached, Goes, Stands, SaysOn, ServesOn};
 ghost use Rattle.serve_loop.specs.Giving.{IsNoGet};
 
@@ -15,9 +17,10 @@ use crate::admitting::admit;
 use crate::counting::{count, counts_after, counts_before};
 use crate::giving::get;
 use crate::judging::{range, refusal};
-use crate::orders::{order, reply};
+use crate::orders::{order, reply, upload};
 use crate::saying::{answer_end, answer_request, refuse_head};
 use crate::storage::Storage;
+use crate::taking::receive;
 use crdt_core::{Bytes, Memory, Value};
 use flow_model::Order;
 use http_wire::{Head, HeadEnd, Kept, read_body, read_head};
@@ -41,13 +44,14 @@ fn carry<S: Storage, L: Link>(
 ) -> Result<bool, ServeFault>
     requires state { HasState (S.stands store.old) }
     requires keyed { HasKey order }
+    requires whole { IsWhole order }
     requires no_get { IsNoGet request.now.ask }
     requires present { IsSome (L.present link.old) }
     ensures present { IsSome (L.present link.new) }
     ensures serves { (p : Serving S.State) (times : Option (List ℕ)) (kept : List ℕ) → Stands (S.stands store.old) times served.old p →
         ServesOn (λ left. order_turn S.model request.now order p (kept ++ left)) (Reached S.model S.fits S.lacks (S.stands store.new) p.store) (known_from S.model S.fits S.lacks p.store) times served.new result kept (L.present link.old) (L.present link.new) }
     ensures goes { Goes S.model S.fits S.lacks (S.stands store.old) (S.stands store.new) result }
-    ensures stays { Stays (L.coming link.old) (L.coming link.new) (L.past link.old) (L.past link.new) (L.faults link.old) (L.faults link.new) }
+    ensures stays { Stays L.Link link.old link.new }
 {
     let end = match store.carry(request.time, order) {
         Ok(Some(end)) => end,
@@ -79,7 +83,7 @@ fn serve_whole<S: Storage, L: Link>(
     ensures serves { (p : Serving S.State) (times : Option (List ℕ)) (kept : List ℕ) → Stands (S.stands store.old) times served.old p →
         ServesOn (λ left. whole_turn S.model buckets.now request.now body p (kept ++ left)) (Reached S.model S.fits S.lacks (S.stands store.new) p.store) (known_from S.model S.fits S.lacks p.store) times served.new result kept (L.present link.old) (L.present link.new) }
     ensures goes { Goes S.model S.fits S.lacks (S.stands store.old) (S.stands store.new) result }
-    ensures stays { Stays (L.coming link.old) (L.coming link.new) (L.past link.old) (L.past link.new) (L.faults link.old) (L.faults link.new) }
+    ensures stays { Stays L.Link link.old link.new }
 {
     match refusal(alloc, buckets, request, body.as_slice()) {
         Ok(Some(code)) => answer_request(alloc, link, request, Answer::Refusal(code)),
@@ -106,7 +110,7 @@ fn serve_judged<S: Storage, L: Link>(
     ensures serves { (p : Serving S.State) (times : Option (List ℕ)) (kept : List ℕ) → Stands (S.stands store.old) times served.old p →
         ServesOn (λ left. plan_turn S.model buckets.now request.now (order_of request.now.ask body) p (kept ++ left)) (Reached S.model S.fits S.lacks (S.stands store.new) p.store) (known_from S.model S.fits S.lacks p.store) times served.new result kept (L.present link.old) (L.present link.new) }
     ensures goes { Goes S.model S.fits S.lacks (S.stands store.old) (S.stands store.new) result }
-    ensures stays { Stays (L.coming link.old) (L.coming link.new) (L.past link.old) (L.past link.new) (L.faults link.old) (L.faults link.new) }
+    ensures stays { Stays L.Link link.old link.new }
 {
     match order(&request.ask, body) {
         Ok(Some(order)) => match order {
@@ -132,7 +136,7 @@ fn answer_without<L: Link>(
     ensures present { IsSome (L.present link.new) }
     ensures says { SaysOn (text_of request.now (Answer.Reply (reply_without buckets.now request.now.who request.now.ask))) (closes_of request.now (Answer.Reply (reply_without buckets.now request.now.who request.now.ask))) result (L.present link.old) (L.present link.new) }
     ensures cause { IfErr result (λ e. e ≡ Wanting) }
-    ensures stays { Stays (L.coming link.old) (L.coming link.new) (L.past link.old) (L.past link.new) (L.faults link.old) (L.faults link.new) }
+    ensures stays { Stays L.Link link.old link.new }
 {
     match reply(alloc, buckets, request.who, &request.ask) {
         Ok(reply) => answer_request(alloc, link, request, Answer::Reply(reply)),
@@ -158,7 +162,7 @@ fn serve_body<S: Storage, L: Link>(
     ensures serves { (p : Serving S.State) (times : Option (List ℕ)) → Stands (S.stands store.old) times served.old p →
         ServesOn (λ left. body_turn S.model buckets.now request.now p (kept.old.bytes.items ++ left)) (Reached S.model S.fits S.lacks (S.stands store.new) p.store) (known_from S.model S.fits S.lacks p.store) times served.new result kept.new.bytes.items (L.present link.old) (L.present link.new) }
     ensures goes { Goes S.model S.fits S.lacks (S.stands store.old) (S.stands store.new) result }
-    ensures stays { Stays (L.coming link.old) (L.coming link.new) (L.past link.old) (L.past link.new) (L.faults link.old) (L.faults link.new) }
+    ensures stays { Stays L.Link link.old link.new }
 {
     match read_body(alloc, link, kept, request.length) {
         Ok(body) => serve_whole(alloc, store, link, served, buckets, request, body),
@@ -169,6 +173,33 @@ fn serve_body<S: Storage, L: Link>(
         Err(HeadEnd::Failed) => Ok(false),
         Err(HeadEnd::TooLong) => Ok(false),
         Err(HeadEnd::Bad) => Ok(false),
+    }
+}
+
+// Reads a request's body at once or block by block, and serves it.
+fn serve_coming<S: Storage, L: Link>(
+    alloc: Global,
+    store: &mut S,
+    link: &mut L,
+    kept: &mut Kept,
+    served: &mut Served,
+    buckets: &Buckets,
+    request: &Request,
+) -> Result<bool, ServeFault>
+    requires state { HasState (S.stands store.old) }
+    requires keyed { IsKeyed request.now.ask }
+    requires within { served.old.kept ≤ kept_limit }
+    requires present { IsSome (L.present link.old) }
+    ensures present { IsSome (L.present link.new) }
+    ensures serves { (p : Serving S.State) (times : Option (List ℕ)) → Stands (S.stands store.old) times served.old p →
+        ServesOn (λ left. coming_turn S.model buckets.now request.now (upload_of buckets.now request.now) p (kept.old.bytes.items ++ left)) (Reached S.model S.fits S.lacks (S.stands store.new) p.store) (known_from S.model S.fits S.lacks p.store) times served.new result kept.new.bytes.items (L.present link.old) (L.present link.new) }
+    ensures goes { Goes S.model S.fits S.lacks (S.stands store.old) (S.stands store.new) result }
+    ensures stays { Stays L.Link link.old link.new }
+{
+    match upload(buckets, request) {
+        Ok(Some(upload)) => receive(alloc, store, link, kept, request, upload),
+        Ok(None) => serve_body(alloc, store, link, kept, served, buckets, request),
+        Err(_) => Err(ServeFault::Memory),
     }
 }
 
@@ -201,10 +232,10 @@ fn serve_waiting<S: Storage, L: Link>(
     ensures serves { (p : Serving S.State) (times : Option (List ℕ)) → Stands (S.stands store.old) times served.old p →
         ServesOn (λ left. waiting_turn S.model buckets.now request.now p (kept.old.bytes.items ++ left)) (Reached S.model S.fits S.lacks (S.stands store.new) p.store) (known_from S.model S.fits S.lacks p.store) times served.new result kept.new.bytes.items (L.present link.old) (L.present link.new) }
     ensures goes { Goes S.model S.fits S.lacks (S.stands store.old) (S.stands store.new) result }
-    ensures stays { Stays (L.coming link.old) (L.coming link.new) (L.past link.old) (L.past link.new) (L.faults link.old) (L.faults link.new) }
+    ensures stays { Stays L.Link link.old link.new }
 {
     match send_whole(link, interim(request)) {
-        Ok(()) => serve_body(alloc, store, link, kept, served, buckets, request),
+        Ok(()) => serve_coming(alloc, store, link, kept, served, buckets, request),
         Err(_) => Ok(false),
     }
 }
@@ -226,7 +257,7 @@ fn serve_understood<S: Storage, L: Link>(
     ensures serves { (p : Serving S.State) (times : Option (List ℕ)) → Stands (S.stands store.old) times served.old p →
         ServesOn (λ left. request_turn S.model buckets.now request.now p (kept.old.bytes.items ++ left)) (Reached S.model S.fits S.lacks (S.stands store.new) p.store) (known_from S.model S.fits S.lacks p.store) times served.new result kept.new.bytes.items (L.present link.old) (L.present link.new) }
     ensures goes { Goes S.model S.fits S.lacks (S.stands store.old) (S.stands store.new) result }
-    ensures stays { Stays (L.coming link.old) (L.coming link.new) (L.past link.old) (L.past link.new) (L.faults link.old) (L.faults link.new) }
+    ensures stays { Stays L.Link link.old link.new }
 {
     let size = counts_before(&buckets.names, &request.ask, request.length);
     match count(served, size) {
@@ -290,7 +321,7 @@ fn refuse_read<L: Link>(
     ensures present { IsSome (L.present link.new) }
     ensures says { SaysOn (head_refusal fault (path_of_refusal head.now) (is_method head.now (codes "HEAD")) now) true result (L.present link.old) (L.present link.new) }
     ensures cause { IfErr result (λ e. e ≡ Wanting) }
-    ensures stays { Stays (L.coming link.old) (L.coming link.new) (L.past link.old) (L.past link.new) (L.faults link.old) (L.faults link.new) }
+    ensures stays { Stays L.Link link.old link.new }
 {
     match path_shown(alloc, head) {
         Ok(path) => { refuse_head(alloc, link, fault, path, is_head(head), now) }
@@ -318,7 +349,7 @@ fn serve_ask<S: Storage, L: Link>(
     ensures serves { (p : Serving S.State) (times : Option (List ℕ)) → Stands (S.stands store.old) times served.old p →
         ServesOn (λ left. request_turn S.model buckets.now (request_of last now head.now asked) p (kept.old.bytes.items ++ left)) (Reached S.model S.fits S.lacks (S.stands store.new) p.store) (known_from S.model S.fits S.lacks p.store) times served.new result kept.new.bytes.items (L.present link.old) (L.present link.new) }
     ensures goes { Goes S.model S.fits S.lacks (S.stands store.old) (S.stands store.new) result }
-    ensures stays { Stays (L.coming link.old) (L.coming link.new) (L.past link.old) (L.past link.new) (L.faults link.old) (L.faults link.new) }
+    ensures stays { Stays L.Link link.old link.new }
 {
     match request_for(alloc, head, asked, last, now) {
         Ok(request) => serve_understood(alloc, store, link, kept, served, buckets, &request),
@@ -344,7 +375,7 @@ fn serve_head<S: Storage, L: Link>(
     ensures serves { (p : Serving S.State) (times : Option (List ℕ)) → Stands (S.stands store.old) times served.old p →
         ServesOn (λ left. head_turn S.model buckets.now last now (Some head.now) p (kept.old.bytes.items ++ left)) (Reached S.model S.fits S.lacks (S.stands store.new) p.store) (known_from S.model S.fits S.lacks p.store) times served.new result kept.new.bytes.items (L.present link.old) (L.present link.new) }
     ensures goes { Goes S.model S.fits S.lacks (S.stands store.old) (S.stands store.new) result }
-    ensures stays { Stays (L.coming link.old) (L.coming link.new) (L.past link.old) (L.past link.new) (L.faults link.old) (L.faults link.new) }
+    ensures stays { Stays L.Link link.old link.new }
 {
     match admit(alloc, &buckets.access, head, now) {
         Ok(asked) => serve_ask(
@@ -384,7 +415,7 @@ fn serve_found<S: Storage, L: Link, C: Clock>(
     ensures serves { (p : Serving S.State) → Stands (S.stands store.old) (C.times clock.old) served.old p →
         ServesOn (λ left. head_turn S.model buckets.now last (clocked p).time (Some head.now) (clocked p) (kept.old.bytes.items ++ left)) (Reached S.model S.fits S.lacks (S.stands store.new) p.store) (known_from S.model S.fits S.lacks p.store) (C.times clock.new) served.new result kept.new.bytes.items (L.present link.old) (L.present link.new) }
     ensures goes { Goes S.model S.fits S.lacks (S.stands store.old) (S.stands store.new) result }
-    ensures stays { Stays (L.coming link.old) (L.coming link.new) (L.past link.old) (L.past link.new) (L.faults link.old) (L.faults link.new) }
+    ensures stays { Stays L.Link link.old link.new }
 {
     let now = ask_time(clock, served);
     serve_head(alloc, store, last, link, kept, served, buckets, head, now)
@@ -403,7 +434,7 @@ fn refuse_bad<L: Link, C: Clock>(
     ensures kept { served.new.kept ≡ served.old.kept }
     ensures asked { (times : List ℕ) → C.times clock.old ≡ Some times → (served.new.time ≡ time_from served.old.time (first_of times)) × (C.times clock.new ≡ Some (later_of times)) }
     ensures cause { IfErr result (λ e. e ≡ Wanting) }
-    ensures stays { Stays (L.coming link.old) (L.coming link.new) (L.past link.old) (L.past link.new) (L.faults link.old) (L.faults link.new) }
+    ensures stays { Stays L.Link link.old link.new }
 {
     let now = ask_time(clock, served);
     refuse_head(
@@ -445,7 +476,7 @@ pub fn serve_request<S: Storage, L: Link, C: Clock>(
     // Whatever link and clock tell: lawful orders lead to a state that the store stands for, and `Number` comes only
     // where they lead to an order without room.
     ensures goes { Goes S.model S.fits S.lacks (S.stands store.old) (S.stands store.new) result }
-    ensures stays { Stays (L.coming link.old) (L.coming link.new) (L.past link.old) (L.past link.new) (L.faults link.old) (L.faults link.new) }
+    ensures stays { Stays L.Link link.old link.new }
 {
     match read_head(alloc, link, kept) {
         Ok(head) => serve_found(

@@ -1,6 +1,7 @@
 //! Answers, written to the connection of a link.
 ghost use Rattle.std.specs.Prelude.{◌≡◌, ◌≤◌, Ok, None, IsSome, IfErr, true, option_copied};
-ghost use Rattle.lab_outside.specs.Connection.{OnPresent, Stays};
+ghost use Rattle.lab_outside.specs.Connection.{OnPresent};
+ghost use Rattle.lab_outside.specs.Links.{Stays};
 ghost use Rattle.s3_model.specs.Answer.{answer_text};
 ghost use Rattle.serve_model.specs.declared.served.ServeFault.TheVariants.{Memory as Wanting};
 ghost use Rattle.serve_model.specs.Judging.{answer_to};
@@ -22,7 +23,7 @@ fn say<L: Link>(link: &mut L, text: &[u8], close: bool) -> bool
     requires { IsSome (L.present link.old) }
     ensures present { IsSome (L.present link.new) }
     ensures says { SaysOn text.now close (Ok result) (L.present link.old) (L.present link.new) }
-    ensures stays { Stays (L.coming link.old) (L.coming link.new) (L.past link.old) (L.past link.new) (L.faults link.old) (L.faults link.new) }
+    ensures stays { Stays L.Link link.old link.new }
 {
     match send_whole(link, text) {
         Ok(()) => !close,
@@ -43,7 +44,7 @@ fn reply<L: Link>(
     ensures present { IsSome (L.present link.new) }
     ensures cause { IfErr result (λ e. e ≡ Wanting) }
     ensures says { SaysOn (answer_text (option_copied ask.entry) reply.now now close) close result (L.present link.old) (L.present link.new) }
-    ensures stays { Stays (L.coming link.old) (L.coming link.new) (L.past link.old) (L.past link.new) (L.faults link.old) (L.faults link.new) }
+    ensures stays { Stays L.Link link.old link.new }
 {
     match answer(alloc, ask, reply, now, close) {
         Ok(text) => Ok(say(link, text.as_slice(), close)),
@@ -62,7 +63,7 @@ fn refuse<L: Link>(
     ensures present { IsSome (L.present link.new) }
     ensures cause { IfErr result (λ e. e ≡ Wanting) }
     ensures says { SaysOn (text_of request.now (Answer.Refusal code)) (closes_of request.now (Answer.Refusal code)) result (L.present link.old) (L.present link.new) }
-    ensures stays { Stays (L.coming link.old) (L.coming link.new) (L.past link.old) (L.past link.new) (L.faults link.old) (L.faults link.new) }
+    ensures stays { Stays L.Link link.old link.new }
 {
     let fault = fault(code);
     let path = match request.path.copy() {
@@ -92,7 +93,7 @@ pub(crate) fn answer_request<L: Link>(
     ensures present { IsSome (L.present link.new) }
     ensures cause { IfErr result (λ e. e ≡ Wanting) }
     ensures says { SaysOn (text_of request.now answer) (closes_of request.now answer) result (L.present link.old) (L.present link.new) }
-    ensures stays { Stays (L.coming link.old) (L.coming link.new) (L.past link.old) (L.past link.new) (L.faults link.old) (L.faults link.new) }
+    ensures stays { Stays L.Link link.old link.new }
 {
     match answer {
         Answer::Reply(said) => reply(
@@ -119,7 +120,7 @@ pub(crate) fn answer_end<L: Link>(
     ensures present { IsSome (L.present link.new) }
     ensures says { SaysOn (text_of request.now (answer_to request.now.ask end)) (closes_of request.now (answer_to request.now.ask end)) result (L.present link.old) (L.present link.new) }
     ensures cause { IfErr result (λ e. e ≡ Wanting) }
-    ensures stays { Stays (L.coming link.old) (L.coming link.new) (L.past link.old) (L.past link.new) (L.faults link.old) (L.faults link.new) }
+    ensures stays { Stays L.Link link.old link.new }
 {
     match answer_for(alloc, &request.ask, end) {
         Ok(answer) => answer_request(alloc, link, request, answer),
@@ -140,7 +141,7 @@ pub(crate) fn refuse_head<L: Link>(
     ensures present { IsSome (L.present link.new) }
     ensures cause { IfErr result (λ e. e ≡ Wanting) }
     ensures says { SaysOn (head_refusal fault path head now) true result (L.present link.old) (L.present link.new) }
-    ensures stays { Stays (L.coming link.old) (L.coming link.new) (L.past link.old) (L.past link.new) (L.faults link.old) (L.faults link.new) }
+    ensures stays { Stays L.Link link.old link.new }
 {
     let refused = Reply::Refused { fault, path, head };
     reply(alloc, link, None, &refused, now, true)

@@ -1,5 +1,5 @@
 //! All connections, served one after the other.
-ghost use Rattle.std.specs.Prelude.{◌≡◌, ◌<◌, ◌≤◌, [], Some, None, Err, IfOk, IfSome};
+ghost use Rattle.std.specs.Prelude.{◌≡◌, ◌⊎◌, ◌+◌, ◌<◌, ◌≤◌, [], length, Some, None, Err, IfOk, IfSome};
 ghost use Rattle.lab_outside.specs.Rose.{Rose};
 ghost use Rattle.serve_model.specs.Stores.{known_from};
 ghost use Rattle.serve_model.specs.Talk.{Grammar, Serving};
@@ -47,7 +47,13 @@ pub fn serve<S: Storage, L: Link, C: Clock>(
     ensures goes { Leaves S.model S.fits S.lacks (S.stands store.old) (S.stands store.new) result }
     ensures within { IfOk result (λ n. n ≤ count) }
     ensures short { IfOk result (λ n. n < count → IfSome (L.coming link.old) (λ coming. L.coming link.new ≡ Some [])) }
+    ensures gone { IfOk result (λ n. length (L.past link.new) ≡ length (L.past link.old) + n) }
+
+    // The port is open then, unless waiting for it or for a connection failed; then the link's count of faults rose, and
+    // where it rose that is told.
+    ensures opened { (result ≡ Err ServeStop.Link) ⊎ (L.open_at link.new ≡ Some port) }
     ensures fault { result ≡ Err ServeStop.Link → Rose (L.faults link.old) (L.faults link.new) }
+    ensures told { (result ≡ Err ServeStop.Link) ⊎ (L.faults link.new ≡ L.faults link.old) }
 {
     if link.open(port).is_err() {
         return Err(ServeStop::Link);

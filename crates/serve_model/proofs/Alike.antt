@@ -1,6 +1,6 @@
 -- Two stores that answer alike serve alike: what is written to a connection is the same.
 use Rattle.std.specs.Prelude.{⊤}
-use Rattle.std.proofs.Common.{◌≡◌, ℕ, zero, suc, ◌+◌, Bool, true, false, nat_le, nat_lt, if◌then◌else◌, ◌==◌, Option, Some, None, Result, Ok, Err, List, [], ◌∷◌, ◌++◌, map, length, take, drop, codes, IfSome, ◌∙◌, refl, sym, ap, ap₂, subst, inl, inr}
+use Rattle.std.proofs.Common.{◌≡◌, ℕ, zero, suc, ◌+◌, min, Bool, true, false, nat_le, nat_lt, if◌then◌else◌, ◌==◌, Option, Some, None, Result, Ok, Err, List, [], ◌∷◌, ◌++◌, map, length, take, drop, take-append-drop, codes, IfSome, ◌∙◌, refl, sym, ap, ap₂, subst, inl, inr}
 use Rattle.std.specs.List.{AllByRecursion}
 use Rattle.crdt_core.specs.Members.{OneOf}
 use Rattle.crdt_core.proofs.Each.{all_append, all_weaker}
@@ -21,28 +21,26 @@ use Rattle.serve_model.specs.declared.admitted.Admitted.{Admitted}
 use Rattle.serve_model.specs.declared.buckets.Buckets.{Buckets}
 use Rattle.serve_model.specs.declared.request.Request.{Request}
 use Rattle.serve_model.specs.Admitting.{admitted}
-use Rattle.serve_model.specs.Stores.{Given, Store, Asking}
+use Rattle.serve_model.specs.Stores.{Upload, Job, carry, keep, leave, Given, Store, Asking, IsLeftFor, gives_in, gives_asked}
+use Rattle.serve_model.specs.Told.{told_of, TellSame}
 use Rattle.serve_model.specs.declared.served.ServeFault.{ServeFault}
 use Rattle.serve_model.specs.declared.served.ServeFault.TheVariants.{Kept, Number, Memory}
 use Rattle.serve_model.specs.Serving.{GivesUp}
-use Rattle.serve_model.specs.Connections.{IsPrefixOf, IsUpTo, IsInto, exact, part, AreServed, EndsSo, too_many, begun, halted}
-use Rattle.serve_model.specs.Judging.{refusal_of, counted_before, order_of, reply_without, answer_to, counted_after}
-use Rattle.serve_model.specs.Talk.{request_limit, Grammar, Serving, kept_limit, first_of, later_of, time_from, Next, goes, closes, exceeds, Stop, Halt, Turn, request_of, clocked, counted, stop, behind, behind_halt, passing, having_asked, after, said, answer_turn, exceeded, counting, given_turn, end_turn, giving, order_turn, plan_turn, judged_turn, whole_turn, body_turn, waiting_turn, request_turn, asked_turn, head_turn, cut_turn, turn, Talk, go_on, talk, interim, bad_head, head_refusal, path_shown, text_of, begun_text, given_text, closes_of}
-use Rattle.serve_model.proofs.Ones.{one_weaker, one_left, one_right, one_mapped, all_mapped, one_at, at_one, at_all, all_under}
-
--- all of the first of two lists, and of the second
-split : {A : Type 0} (P : A → Type 0) (xs ys : List A) → AllByRecursion P (xs ++ ys) → AllByRecursion P xs × AllByRecursion P ys
-split P [] ys h = (tt, h)
-split P (x ∷ xs) ys h = let k = split P xs ys h.1 in ((h.0, k.0), k.1)
+use Rattle.serve_model.specs.Connections.{IsPrefixOf, IsUpTo, IsInto, WasSteady, exact, part, AreServed, EndsSo, too_many, begun, halted}
+use Rattle.serve_model.specs.Judging.{refusal_of, counted_before, upload_of, order_of, reply_without, answer_to, counted_after}
+use Rattle.serve_model.specs.Talk.{request_limit, Grammar, Serving, kept_limit, first_of, later_of, time_from, Next, goes, closes, exceeds, Stop, Halt, Turn, request_of, clocked, counted, stop, behind, behind_halt, passing, having_asked, after, said, answer_turn, exceeded, counting, given_turn, end_turn, giving, asking_now, order_turn, left_turn, leaving_turn, came_turn, below, uploading, cut_after, while_coming, plan_turn, judged_turn, whole_turn, body_turn, received_turn, stream_turn, coming_turn, waiting_turn, request_turn, asked_turn, head_turn, cut_turn, turn, Talk, go_on, talk, interim, bad_head, head_refusal, path_shown, text_of, begun_text, given_text, closes_of}
+use Rattle.serve_model.proofs.Telling.{same_answers, same_counts}
+use Rattle.serve_model.proofs.Ones.{split, one_weaker, one_left, one_right, one_mapped, all_mapped, one_at, at_one, at_all, all_under}
 
 pub any : {A : Type 0} (xs : List A) → AllByRecursion (λ x. ⊤) xs
 any [] = tt
 any (x ∷ xs) = (tt, any xs)
 
--- two stores answer alike: from states that are alike, what one may and the other should be asked ends alike, and leads to states that are alike; and what one may give in the middle of a get the other may
+-- two stores answer alike: from states that are alike, what one may and the other should be asked tells the same, and leads to states that are alike; what should be asked may as well give its upload up; and what one may give in the middle of a get the other may
 pub record AnswerAlike {S T : Type 0} (one : Store S) (other : Store T) (Alike : S → T → Type 0) (May : Asking S → Type 0) (Should : Asking T → Type 0) : Type 0 where
-  pub answers : (s : S) (t : T) (time : ℕ) (order : Order) → Alike s t → May (record { state = s; time = time; order = order }) → Should (record { state = t; time = time; order = order }) →
-      ((one.carries s time order).end ≡ (other.carries t time order).end) × ((one.carries s time order).begun ≡ (other.carries t time order).begun) × Alike (one.carries s time order).state (other.carries t time order).state
+  pub answers : (s : S) (t : T) (time : ℕ) (job : Job) → Alike s t → May (record { state = s; time = time; job = job }) → Should (record { state = t; time = time; job = job }) →
+      TellSame (one.carries s time job).end (other.carries t time job).end × ((one.carries s time job).begun ≡ (other.carries t time job).begun) × Alike (one.carries s time job).state (other.carries t time job).state
+  pub earlier : (a b : Asking T) → IsLeftFor a b → Should b → Should a
   pub gives : (s : S) (t : T) (time : ℕ) (bucket key : List ℕ) (g : Given) → Alike s t → one.gives s time (order.Get bucket key) g → other.gives t time (order.Get bucket key) g
 
 module _ {S T : Type 0} (one : Store S) (other : Store T) (Alike : S → T → Type 0) (May : Asking S → Type 0) (Should : Asking T → Type 0) (answers : AnswerAlike one other Alike May Should) where
@@ -63,6 +61,7 @@ module _ {S T : Type 0} (one : Store S) (other : Store T) (Alike : S → T → T
   pub record Stops (s : Stop S) (r : Stop T) : Type 0 where
     pub text : s.text ≡ r.text
     pub serving : Serves s.serving r.serving
+    pub uploads : s.uploads ≡ r.uploads
 
   -- what is written before a halt is alike, and the get in the middle of which it is
   pub record Halts (h : Halt S) (k : Halt T) : Type 0 where
@@ -70,8 +69,8 @@ module _ {S T : Type 0} (one : Store S) (other : Store T) (Alike : S → T → T
     pub request : h.request ≡ k.request
     pub bucket : List ℕ
     pub key : List ℕ
-    pub asked : h.asking.order ≡ order.Get bucket key
-    pub other_asked : k.asking.order ≡ order.Get bucket key
+    pub asked : h.asking.job ≡ carry (order.Get bucket key)
+    pub other_asked : k.asking.job ≡ carry (order.Get bucket key)
     pub time : h.asking.time ≡ k.asking.time
     pub store : Alike h.asking.state k.asking.state
 
@@ -111,8 +110,8 @@ module _ {S T : Type 0} (one : Store S) (other : Store T) (Alike : S → T → T
 
   module _ {X Y : Type 0} (asks : X → List (Asking S)) (Like : X → Y → Type 0) where
     -- one place more, and all places behind it
-    one_more : (x : X) (y : Y) (xs : List X) (ys : List Y) → Like x y → Follow asks Like xs ys → Follow asks Like (x ∷ xs) (y ∷ ys)
-    one_more x y xs ys h f = ((λ fit. inl h), all_weaker (λ (x : X). Fit (asks x) → OneOf (Like x) ys) (λ (x : X). Fit (asks x) → OneOf (Like x) (y ∷ ys)) (λ x k fit. inr (k fit)) xs f)
+    one_more : (x : X) (y : Y) (xs : List X) (ys : List Y) → (Fit (asks x) → Like x y) → Follow asks Like xs ys → Follow asks Like (x ∷ xs) (y ∷ ys)
+    one_more x y xs ys h f = ((λ fit. inl (h fit)), all_weaker (λ (x : X). Fit (asks x) → OneOf (Like x) ys) (λ (x : X). Fit (asks x) → OneOf (Like x) (y ∷ ys)) (λ x k fit. inr (k fit)) xs f)
 
     -- before all places comes something that fits under a premise
     placed_behind : (Premise : Type 0) (f : X → X) (ys zs : List Y) (xs : List X) → ((x : X) → Fit (asks (f x)) → Premise × Fit (asks x)) → (Premise → (x : X) → OneOf (Like x) ys → OneOf (Like (f x)) zs) → (Premise → Follow asks Like xs ys) → Follow asks Like (map f xs) zs
@@ -123,7 +122,7 @@ module _ {S T : Type 0} (one : Store S) (other : Store T) (Alike : S → T → T
   -- the same comes before both
   module _ (text text' : List ℕ) (asks : List (Asking S)) (asks' : List (Asking T)) (same : text ≡ text') where
     stops_behind : (s : Stop S) (rs : List (Stop T)) → OneOf (Stops s) rs → OneOf (Stops (behind text asks s)) (map (behind text' asks') rs)
-    stops_behind s rs = one_mapped (Stops s) (Stops (behind text asks s)) (behind text' asks') (λ r a. record { text = ap₂ (λ x y. x ++ y) same a.text; serving = a.serving }) rs
+    stops_behind s rs = one_mapped (Stops s) (Stops (behind text asks s)) (behind text' asks') (λ r a. record { text = ap₂ (λ x y. x ++ y) same a.text; serving = a.serving; uploads = a.uploads }) rs
 
     halts_behind : (h : Halt S) (ks : List (Halt T)) → OneOf (Halts h) ks → OneOf (Halts (behind_halt text asks h)) (map (behind_halt text' asks') ks)
     halts_behind h ks =
@@ -134,7 +133,7 @@ module _ {S T : Type 0} (one : Store S) (other : Store T) (Alike : S → T → T
   passing_alike p q t u l h =
       record {
         whole = λ fit meant. let k = h.whole fit meant in record { text = k.text; serving = k.serving; next = k.next };
-        stops = λ meant. one_more asks_of Stops (stop [] p) (stop [] q) t.stops u.stops (record { text = refl; serving = l }) (h.stops meant);
+        stops = λ meant. one_more asks_of Stops (stop [] p) (stop [] q) t.stops u.stops (λ fit. record { text = refl; serving = l; uploads = refl }) (h.stops meant);
         halts = h.halts;
       }
 
@@ -161,27 +160,27 @@ module _ {S T : Type 0} (one : Store S) (other : Store T) (Alike : S → T → T
       }
 
   -- a get may be given up in the middle of it, of both
-  giving_alike : (r : Request) (o : Order) (time : ℕ) (x : S) (y : T) (t : Turn S) (u : Turn T) → Alike x y → TurnsSo t u →
-      TurnsSo (giving r (record { state = x; time = time; order = o }) t) (giving r (record { state = y; time = time; order = o }) u)
-  giving_alike r (order.Get bucket key) time x y t u l h =
-      let a : Asking S = record { state = x; time = time; order = order.Get bucket key } in
-      let b : Asking T = record { state = y; time = time; order = order.Get bucket key } in
+  giving_alike : (r : Request) (o : Order) (p : Serving S) (q : Serving T) (t : Turn S) (u : Turn T) → Alike p.store q.store → TurnsSo t u → TurnsSo (giving r (asking_now r (carry o) p) t) (giving r (asking_now r (carry o) q) u)
+  giving_alike r (order.Get bucket key) p q t u l h =
+      let a : Asking S = asking_now r (carry (order.Get bucket key)) p in
+      let b : Asking T = asking_now r (carry (order.Get bucket key)) q in
       record {
         whole = λ fit meant. let k = h.whole fit meant in record { text = k.text; serving = k.serving; next = k.next };
         stops = h.stops;
         halts = λ meant.
             one_more asks_before Halts (record { text = []; asks = []; request = r; asking = a }) (record { text = []; asks = []; request = r; asking = b }) t.halts u.halts
-            (record { text = refl; request = refl; bucket = bucket; key = key; asked = refl; other_asked = refl; time = refl; store = l }) (h.halts meant);
+            (λ fit. record { text = refl; request = refl; bucket = bucket; key = key; asked = refl; other_asked = refl; time = refl; store = l }) (h.halts meant);
       }
-  giving_alike r (order.Put bucket key body headers) time x y t u l h = record { whole = h.whole; stops = h.stops; halts = h.halts }
-  giving_alike r (order.Head bucket key) time x y t u l h = record { whole = h.whole; stops = h.stops; halts = h.halts }
-  giving_alike r (order.Delete bucket key) time x y t u l h = record { whole = h.whole; stops = h.stops; halts = h.halts }
-  giving_alike r (order.Copy from_bucket from_key bucket key headers) time x y t u l h = record { whole = h.whole; stops = h.stops; halts = h.halts }
-  giving_alike r (order.List bucket prefix) time x y t u l h = record { whole = h.whole; stops = h.stops; halts = h.halts }
+  giving_alike r (order.Put bucket key body headers) p q t u l h = record { whole = h.whole; stops = h.stops; halts = h.halts }
+  giving_alike r (order.Stream bucket key announced headers) p q t u l h = record { whole = h.whole; stops = h.stops; halts = h.halts }
+  giving_alike r (order.Head bucket key) p q t u l h = record { whole = h.whole; stops = h.stops; halts = h.halts }
+  giving_alike r (order.Delete bucket key) p q t u l h = record { whole = h.whole; stops = h.stops; halts = h.halts }
+  giving_alike r (order.Copy from_bucket from_key bucket key headers) p q t u l h = record { whole = h.whole; stops = h.stops; halts = h.halts }
+  giving_alike r (order.List bucket prefix) p q t u l h = record { whole = h.whole; stops = h.stops; halts = h.halts }
 
   said_alike : (text : List ℕ) (close : Bool) (p : Serving S) (q : Serving T) (rest : List ℕ) → Serves p q → TurnsSo (said text close p rest) (said text close q rest)
   said_alike text close p q rest l =
-      record { whole = λ fit meant. record { text = refl; serving = l; next = refl }; stops = λ meant. ((λ fit. inl (record { text = refl; serving = l })), tt); halts = λ meant. tt }
+      record { whole = λ fit meant. record { text = refl; serving = l; next = refl }; stops = λ meant. ((λ fit. inl (record { text = refl; serving = l; uploads = refl })), tt); halts = λ meant. tt }
 
   counted_alike : (size : ℕ) (p : Serving S) (q : Serving T) → Serves p q → Serves (counted size p) (counted size q)
   counted_alike size p q l = record { store = l.store; times = l.times; time = l.time; kept = ap (λ n. n + size) l.kept }
@@ -192,7 +191,7 @@ module _ {S T : Type 0} (one : Store S) (other : Store T) (Alike : S → T → T
   counting_alike size p q l f g h =
       let m = counted_alike size p q l in
       either (nat_lt kept_limit (p.kept + size)) (nat_lt kept_limit (q.kept + size)) (ap (λ n. nat_lt kept_limit (n + size)) l.kept) (exceeded (counted size p)) (f (counted size p)) (exceeded (counted size q)) (g (counted size q))
-      (record { whole = λ fit meant. record { text = refl; serving = m; next = refl }; stops = λ meant. ((λ fit. inl (record { text = refl; serving = m })), tt); halts = λ meant. tt }) (h m)
+      (record { whole = λ fit meant. record { text = refl; serving = m; next = refl }; stops = λ meant. ((λ fit. inl (record { text = refl; serving = m; uploads = refl })), tt); halts = λ meant. tt }) (h m)
 
   answer_alike : (r : Request) (a : Answer) (p : Serving S) (q : Serving T) (rest : List ℕ) → Serves p q → TurnsSo (answer_turn r a p rest) (answer_turn r a q rest)
   answer_alike r a p q rest l = said_alike (text_of r a) (closes_of r a) p q rest l
@@ -200,30 +199,97 @@ module _ {S T : Type 0} (one : Store S) (other : Store T) (Alike : S → T → T
   given_alike : (r : Request) (a : Answer) (had : Option Given) (p : Serving S) (q : Serving T) (rest : List ℕ) → Serves p q → TurnsSo (given_turn r a had p rest) (given_turn r a had q rest)
   given_alike r a had p q rest l = said_alike (given_text r a had) (closes_of r a) p q rest l
 
-  end_alike : (r : Request) (end : Option FlowEnd) (had : Option Given) (p : Serving S) (q : Serving T) (rest : List ℕ) → Serves p q → TurnsSo (end_turn r end had p rest) (end_turn r end had q rest)
-  end_alike r None had p q rest l = given_alike r answer.Nothing had p q rest l
-  end_alike r (Some end) had p q rest l =
-      counting_alike (counted_after r.ask end) p q l (λ v. given_turn r (answer_to r.ask end) had v rest) (λ v. given_turn r (answer_to r.ask end) had v rest)
-      (λ m. given_alike r (answer_to r.ask end) had (counted (counted_after r.ask end) p) (counted (counted_after r.ask end) q) rest m)
+  -- ends that tell the same are answered alike
+  end_alike : (r : Request) (end same : Option FlowEnd) (had : Option Given) (p : Serving S) (q : Serving T) (rest : List ℕ) → TellSame end same → Serves p q → TurnsSo (end_turn r end had p rest) (end_turn r same had q rest)
+  end_alike r None None had p q rest tells l = given_alike r answer.Nothing had p q rest l
+  end_alike r None (Some same) had p q rest tells l = cc
+  end_alike r (Some end) None had p q rest tells l = cc
+  end_alike r (Some end) (Some same) had p q rest tells l =
+      let told : Some (told_of end) ≡ Some (told_of same) = tells in
+      let is : told_of end ≡ told_of same = cc in
+      let t : Turn S = end_turn r (Some end) had p rest in
+      subst (λ (size : ℕ). TurnsSo t (counting size q (λ v. given_turn r (answer_to r.ask same) had v rest))) (same_counts r.ask end same is)
+      (subst (λ (a : Answer). TurnsSo t (counting (counted_after r.ask end) q (λ v. given_turn r a had v rest))) (same_answers r.ask end same is)
+      (counting_alike (counted_after r.ask end) p q l (λ v. given_turn r (answer_to r.ask end) had v rest) (λ v. given_turn r (answer_to r.ask end) had v rest)
+      (λ m. given_alike r (answer_to r.ask end) had (counted (counted_after r.ask end) p) (counted (counted_after r.ask end) q) rest m)))
 
-  order_alike : (r : Request) (o : Order) (p : Serving S) (q : Serving T) (rest : List ℕ) → Serves p q → TurnsSo (order_turn one r o p rest) (order_turn other r o q rest)
-  order_alike r o p q rest l =
-      let c = one.carries p.store r.time o in
-      let d = other.carries q.store r.time o in
+  left_alike : (r : Request) (code : Code) (end same : Option FlowEnd) (p : Serving S) (q : Serving T) (rest : List ℕ) → TellSame end same → Serves p q → TurnsSo (left_turn r code end p rest) (left_turn r code same q rest)
+  left_alike r code None None p q rest tells l = answer_alike r answer.Nothing p q rest l
+  left_alike r code None (Some same) p q rest tells l = cc
+  left_alike r code (Some end) None p q rest tells l = cc
+  left_alike r code (Some end) (Some same) p q rest tells l = answer_alike r (answer.Refusal code) p q rest l
+
+  -- a job is carried out, and what is served then is alike
+  carried_alike : (r : Request) (job : Job) (p : Serving S) (q : Serving T) → Serves p q → May (asking_now r job p) → Should (asking_now r job q) →
+      Serves (record p { store = (one.carries p.store r.time job).state }) (record q { store = (other.carries q.store r.time job).state })
+  carried_alike r job p q l may should = record { store = (answers.answers p.store q.store r.time job l.store may should).2; times = l.times; time = l.time; kept = l.kept }
+
+  -- and it is answered by its end
+  job_alike : (r : Request) (job : Job) (p : Serving S) (q : Serving T) (rest : List ℕ) → Serves p q →
+      (let c = one.carries p.store r.time job in
+      let d = other.carries q.store r.time job in
+      TurnsSo (having_asked (asking_now r job p) (end_turn r c.end c.begun (record p { store = c.state }) rest)) (having_asked (asking_now r job q) (end_turn r d.end d.begun (record q { store = d.state }) rest)))
+  job_alike r job p q rest l =
+      let c = one.carries p.store r.time job in
+      let d = other.carries q.store r.time job in
       let after_one : Serving S = record p { store = c.state } in
       let after_other : Serving T = record q { store = d.state } in
       let t = end_turn r c.end c.begun after_one rest in
-      let u = end_turn r d.end d.begun after_other rest in
-      let a : Asking S = record { state = p.store; time = r.time; order = o } in
-      let b : Asking T = record { state = q.store; time = r.time; order = o } in
-      passing_alike p q (giving r a (having_asked a t)) (giving r b (having_asked b u)) l
-      (giving_alike r o r.time p.store q.store (having_asked a t) (having_asked b u) l.store
-      (asked_before a b t u
-      (λ fit meant.
-      let k = answers.answers p.store q.store r.time o l.store fit meant in
-      subst (λ (end : Option FlowEnd). TurnsSo t (end_turn r end d.begun after_other rest)) k.0
-      (subst (λ (had : Option Given). TurnsSo t (end_turn r c.end had after_other rest)) k.1
-      (end_alike r c.end c.begun after_one after_other rest (record { store = k.2; times = l.times; time = l.time; kept = l.kept }))))))
+      asked_before (asking_now r job p) (asking_now r job q) t (end_turn r d.end d.begun after_other rest)
+      (λ may should.
+      let k = answers.answers p.store q.store r.time job l.store may should in
+      subst (λ (had : Option Given). TurnsSo t (end_turn r d.end had after_other rest)) k.1 (end_alike r c.end d.end c.begun after_one after_other rest k.0 (carried_alike r job p q l may should)))
+
+  order_alike : (r : Request) (o : Order) (p : Serving S) (q : Serving T) (rest : List ℕ) → Serves p q → TurnsSo (order_turn one r o p rest) (order_turn other r o q rest)
+  order_alike r o p q rest l =
+      let a : Asking S = asking_now r (carry o) p in
+      let b : Asking T = asking_now r (carry o) q in
+      let c = one.carries p.store r.time (carry o) in
+      let d = other.carries q.store r.time (carry o) in
+      let t = having_asked a (end_turn r c.end c.begun (record p { store = c.state }) rest) in
+      let u = having_asked b (end_turn r d.end d.begun (record q { store = d.state }) rest) in
+      passing_alike p q (giving r a t) (giving r b u) l (giving_alike r o p q t u l.store (job_alike r (carry o) p q rest l))
+
+  -- ---- uploads
+
+  module _ (r : Request) (u : Upload) where
+    leaving_alike : (code : Code) (came : List ℕ) (p : Serving S) (q : Serving T) (rest : List ℕ) → Serves p q → TurnsSo (leaving_turn one r u code came p rest) (leaving_turn other r u code came q rest)
+    leaving_alike code came p q rest l =
+        let c = one.carries p.store r.time (leave u came) in
+        let d = other.carries q.store r.time (leave u came) in
+        let after_one : Serving S = record p { store = c.state } in
+        let after_other : Serving T = record q { store = d.state } in
+        asked_before (asking_now r (leave u came) p) (asking_now r (leave u came) q) (left_turn r code c.end after_one rest) (left_turn r code d.end after_other rest)
+        (λ may should. left_alike r code c.end d.end after_one after_other rest (answers.answers p.store q.store r.time (leave u came) l.store may should).0 (carried_alike r (leave u came) p q l may should))
+
+    came_alike : (c : Option Code) (came : List ℕ) (p : Serving S) (q : Serving T) (rest : List ℕ) → Serves p q → TurnsSo (came_turn one r u c came p rest) (came_turn other r u c came q rest)
+    came_alike (Some code) came p q rest l = leaving_alike code came p q rest l
+    came_alike None came p q rest l = job_alike r (keep u came) p q rest l
+
+    -- it may be cut off while the bytes come, of both, where the other store should be asked to give the upload up then
+    cuts_alike : (came : List ℕ) (p : Serving S) (q : Serving T) (stops : List (Stop S)) (others : List (Stop T)) → Serves p q → ((n : ℕ) → Should (asking_now r (leave u (take n came)) q)) → StopsFollow stops others → (ns : List ℕ) →
+        StopsFollow (map (cut_after one r u came p) ns ++ stops) (map (cut_after other r u came q) ns ++ others)
+    cuts_alike came p q stops others l should follow [] = follow
+    cuts_alike came p q stops others l should follow (n ∷ ns) =
+        one_more asks_of Stops (cut_after one r u came p n) (cut_after other r u came q n) (map (cut_after one r u came p) ns ++ stops) (map (cut_after other r u came q) ns ++ others)
+        (λ fit. record { text = refl; serving = carried_alike r (leave u (take n came)) p q l fit.0 (should n); uploads = refl }) (cuts_alike came p q stops others l should follow ns)
+
+    coming_alike : (came : List ℕ) (p : Serving S) (q : Serving T) (t : Turn S) (v : Turn T) → Serves p q → (Meant v.asks → (n : ℕ) → Should (asking_now r (leave u (take n came)) q)) → TurnsSo t v →
+        TurnsSo (while_coming one r u came p t) (while_coming other r u came q v)
+    coming_alike came p q t v l should h =
+        record {
+          whole = λ fit meant. let k = h.whole fit meant in record { text = k.text; serving = k.serving; next = k.next };
+          stops = λ meant.
+              let ns = below (min (suc (length came)) u.length) in
+              one_more asks_of Stops (uploading one r u p) (uploading other r u q) (map (cut_after one r u came p) ns ++ t.stops) (map (cut_after other r u came q) ns ++ v.stops)
+              (λ fit. record { text = refl; serving = l; uploads = refl }) (cuts_alike came p q t.stops v.stops l (should meant) (h.stops meant) ns);
+          halts = h.halts;
+        }
+
+    -- what is asked once bytes came should be asked: so should it be that the upload is given up before
+    left_before : (c : Option Code) (came : List ℕ) (q : Serving T) (rest : List ℕ) → Meant (came_turn other r u c came q rest).asks → (n : ℕ) → Should (asking_now r (leave u (take n came)) q)
+    left_before (Some code) came q rest meant n = answers.earlier (asking_now r (leave u (take n came)) q) (asking_now r (leave u came) q) (refl, refl, (refl, (drop n came, take-append-drop n came))) meant.0
+    left_before None came q rest meant n = answers.earlier (asking_now r (leave u (take n came)) q) (asking_now r (keep u came) q) (refl, refl, (refl, (drop n came, take-append-drop n came))) meant.0
 
   module _ (buckets : Buckets) where
     plan_alike : (r : Request) (o : Option Order) (p : Serving S) (q : Serving T) (rest : List ℕ) → Serves p q → TurnsSo (plan_turn one buckets r o p rest) (plan_turn other buckets r o q rest)
@@ -241,8 +307,28 @@ module _ {S T : Type 0} (one : Store S) (other : Store T) (Alike : S → T → T
         (either (nat_le r.length (length rest)) (nat_le r.length (length rest)) refl (whole_turn one buckets r (take r.length rest) p (drop r.length rest)) (answer_turn r (answer.Refusal IncompleteBody) p rest) (whole_turn other buckets r (take r.length rest) q (drop r.length rest)) (answer_turn r (answer.Refusal IncompleteBody) q rest)
         (judged_alike r (take r.length rest) (refusal_of buckets r (take r.length rest)) p q (drop r.length rest) l) (answer_alike r (answer.Refusal IncompleteBody) p q rest l))
 
+    module _ (r : Request) (u : Upload) (came : List ℕ) (p : Serving S) (q : Serving T) (rest : List ℕ) where
+      received_alike : Serves p q → TurnsSo (received_turn one buckets r u came p rest) (received_turn other buckets r u came q rest)
+      received_alike l =
+          either (nat_le r.length (length rest)) (nat_le r.length (length rest)) refl (came_turn one r u (refusal_of buckets r came) came p (drop r.length rest)) (leaving_turn one r u IncompleteBody came p rest)
+          (came_turn other r u (refusal_of buckets r came) came q (drop r.length rest)) (leaving_turn other r u IncompleteBody came q rest) (came_alike r u (refusal_of buckets r came) came p q (drop r.length rest) l) (leaving_alike r u IncompleteBody came p q rest l)
+
+      received_meant : (b : Bool) → Meant (if b then came_turn other r u (refusal_of buckets r came) came q (drop r.length rest) else leaving_turn other r u IncompleteBody came q rest).asks → (n : ℕ) → Should (asking_now r (leave u (take n came)) q)
+      received_meant true meant n = left_before r u (refusal_of buckets r came) came q (drop r.length rest) meant n
+      received_meant false meant n = left_before r u (Some IncompleteBody) came q rest meant n
+
+    stream_alike : (r : Request) (u : Upload) (p : Serving S) (q : Serving T) (rest : List ℕ) → Serves p q → TurnsSo (stream_turn one buckets r u p rest) (stream_turn other buckets r u q rest)
+    unfolding stream_turn
+    stream_alike r u p q rest l =
+        let came = take r.length rest in
+        passing_alike p q _ _ l (coming_alike r u came p q (received_turn one buckets r u came p rest) (received_turn other buckets r u came q rest) l (received_meant r u came p q rest (nat_le r.length (length rest))) (received_alike r u came p q rest l))
+
+    at_once_or_not : (r : Request) (o : Option Upload) (p : Serving S) (q : Serving T) (rest : List ℕ) → Serves p q → TurnsSo (coming_turn one buckets r o p rest) (coming_turn other buckets r o q rest)
+    at_once_or_not r (Some u) p q rest l = stream_alike r u p q rest l
+    at_once_or_not r None p q rest l = body_alike r p q rest l
+
     waiting_alike : (r : Request) (p : Serving S) (q : Serving T) (rest : List ℕ) → Serves p q → TurnsSo (waiting_turn one buckets r p rest) (waiting_turn other buckets r q rest)
-    waiting_alike r p q rest l = after_alike (interim r) (body_turn one buckets r p rest) (body_turn other buckets r q rest) (body_alike r p q rest l)
+    waiting_alike r p q rest l = after_alike (interim r) (coming_turn one buckets r (upload_of buckets r) p rest) (coming_turn other buckets r (upload_of buckets r) q rest) (at_once_or_not r (upload_of buckets r) p q rest l)
 
     request_alike : (r : Request) (p : Serving S) (q : Serving T) (rest : List ℕ) → Serves p q → TurnsSo (request_turn one buckets r p rest) (request_turn other buckets r q rest)
     request_alike r p q rest l = counting_alike (counted_before buckets.names r.ask r.length) p q l (λ v. waiting_turn one buckets r v rest) (λ v. waiting_turn other buckets r v rest) (λ m. waiting_alike r (counted (counted_before buckets.names r.ask r.length) p) (counted (counted_before buckets.names r.ask r.length) q) rest m)
@@ -395,7 +481,7 @@ module _ {S T : Type 0} (one : Store S) (other : Store T) (Alike : S → T → T
             halts = λ meant. go_on_halts f h t u so later t.next u.next (λ first. (so.whole first (first_meant h u u.next meant)).next) meant;
           }
 
-      -- each order that these connections ask, one after the other, is as it should be, wherever one whose count of faults rose was cut off
+      -- each job that these connections ask, one after the other, is as it should be, wherever one whose count of faults rose was cut off
       abbrev pub AllMeant : Serving T → List (List ℕ) → List Connection → Type 0
       AllMeant q [] ds = ⊤
       AllMeant q (bytes ∷ more) [] = ⊤
@@ -407,10 +493,11 @@ module _ {S T : Type 0} (one : Store S) (other : Store T) (Alike : S → T → T
       up_to_alike d s r a h = (subst (λ (text : List ℕ). IfSome d.written (λ w. IsPrefixOf w text)) a.text h.0, any r.asks)
 
       -- what one may give in the middle of a get the other may
-      gives_alike : (h : Halt S) (k : Halt T) → Halts h k → (x : Given) → one.gives h.asking.state h.asking.time h.asking.order x → other.gives k.asking.state k.asking.time k.asking.order x
+      gives_alike : (h : Halt S) (k : Halt T) → Halts h k → (x : Given) → gives_asked one h.asking x → gives_asked other k.asking x
       gives_alike h k a x gives =
-          let here : one.gives h.asking.state k.asking.time (order.Get a.bucket a.key) x = subst (λ (n : ℕ). one.gives h.asking.state n (order.Get a.bucket a.key) x) a.time (subst (λ (o : Order). one.gives h.asking.state h.asking.time o x) a.asked gives) in
-          subst (λ (o : Order). other.gives k.asking.state k.asking.time o x) (sym a.other_asked) (answers.gives h.asking.state k.asking.state k.asking.time a.bucket a.key x a.store here)
+          let get : Job = carry (order.Get a.bucket a.key) in
+          let here : gives_in one h.asking.state k.asking.time get x = subst (λ (n : ℕ). gives_in one h.asking.state n get x) a.time (subst (λ (job : Job). gives_in one h.asking.state h.asking.time job x) a.asked gives) in
+          subst (λ (job : Job). gives_in other k.asking.state k.asking.time job x) (sym a.other_asked) (answers.gives h.asking.state k.asking.state k.asking.time a.bucket a.key x a.store here)
 
       -- what is written in the middle of a get is what is written in the middle of one that is alike
       pub into_alike : (d : Connection) (h : Halt S) (k : Halt T) → Halts h k → IsInto one buckets g May d h → IsInto other buckets g (λ a. ⊤) d k
@@ -433,13 +520,13 @@ module _ {S T : Type 0} (one : Store S) (other : Store T) (Alike : S → T → T
       served_alike rest ds [] [] p s q l meant served = record { serving = q; are_served = refl; alike = subst (λ (x : Serving S). Serves x q) (sym served) l; meant = meant }
       served_alike rest ds [] (d ∷ gone) p s q l meant served = absurd served
       served_alike rest ds (bytes ∷ came) [] p s q l meant served = absurd served
-      served_alike rest ds (bytes ∷ came) (d ∷ gone) p s q l meant (mid, exact over wrote fit is, later) =
+      served_alike rest ds (bytes ∷ came) (d ∷ gone) p s q l meant (mid, exact over wrote fit none is, later) =
           let k = (talk_alike request_limit p q bytes l).whole fit meant.0 in
           let z = (talk other buckets g request_limit q bytes).serving in
           let more = served_alike rest ds came gone (talk one buckets g request_limit p bytes).serving s z k.serving meant.1 (subst (λ (x : Serving S). AreServed one buckets g May x came gone s) is later) in
           record {
             serving = more.serving;
-            are_served = (z, exact (sym k.is_over ∙ over) (subst (λ (text : List ℕ). IfSome d.written (λ w. w ≡ text)) k.text wrote) (any (talk other buckets g request_limit q bytes).asks) refl, more.are_served);
+            are_served = (z, exact (sym k.is_over ∙ over) (subst (λ (text : List ℕ). IfSome d.written (λ w. w ≡ text)) k.text wrote) (any (talk other buckets g request_limit q bytes).asks) none refl, more.are_served);
             alike = more.alike;
             meant = more.meant;
           }
@@ -462,18 +549,26 @@ module _ {S T : Type 0} (one : Store S) (other : Store T) (Alike : S → T → T
       any_cause overflows asks others Number why = tt
       any_cause overflows asks others Memory why = tt
 
+      -- where the client of an upload was lost
+      steady_alike : (d : Connection) (stops : List (Stop S)) (others : List (Stop T)) → StopsFollow stops others → WasSteady one buckets g May d stops → WasSteady other buckets g (λ a. ⊤) d others
+      steady_alike d stops others follow (inl none) = inl none
+      steady_alike d stops others follow (inr (rose, lost)) =
+          let at = one_at (λ (x : Stop S). IsUpTo one buckets g May d x × (x.uploads ≡ true)) stops lost in
+          let k = at_all (λ (x : Stop S). Fit x.asks → OneOf (Stops x) others) stops at.0 at.1.0 follow at.1.1.0.1 in
+          inr (rose, one_weaker (Stops at.0) (λ (x : Stop T). IsUpTo other buckets g (λ a. ⊤) d x × (x.uploads ≡ true)) (λ r a. (up_to_alike d at.0 r a at.1.1.0, sym a.uploads ∙ at.1.1.1)) others k)
+
       -- and with one more serving ended so
       pub ended_alike : (overflows : List (Asking S) → Type 0) (p : Serving S) (q : Serving T) (bytes : List ℕ) (d : Connection) (e : ServeFault) → Serves p q → Meant (talk other buckets g request_limit q bytes).asks → EndsSo one buckets g May overflows (talk one buckets g request_limit p bytes) d e →
           EndsSo other buckets g (λ a. ⊤) (λ asks. ⊤) (talk other buckets g request_limit q bytes) d e
-      ended_alike overflows p q bytes d e l meant (too_many over wrote fit) =
+      ended_alike overflows p q bytes d e l meant (too_many over wrote fit none) =
           let k = (talk_alike request_limit p q bytes l).whole fit meant in
-          too_many (sym k.is_over ∙ over) (subst (λ (text : List ℕ). IfSome d.written (λ w. w ≡ text)) k.text wrote) (any (talk other buckets g request_limit q bytes).asks)
-      ended_alike overflows p q bytes d e l meant (begun f why stops) =
+          too_many (sym k.is_over ∙ over) (subst (λ (text : List ℕ). IfSome d.written (λ w. w ≡ text)) k.text wrote) (any (talk other buckets g request_limit q bytes).asks) none
+      ended_alike overflows p q bytes d e l meant (begun f why stops steady) =
           let t = talk one buckets g request_limit p bytes in
           let u = talk other buckets g request_limit q bytes in
           let at = one_at (IsUpTo one buckets g May d) t.stops stops in
           let k = at_all (λ (x : Stop S). Fit x.asks → OneOf (Stops x) u.stops) t.stops at.0 at.1.0 ((talk_alike request_limit p q bytes l).stops meant) at.1.1.1 in
-          begun f (any_cause overflows t.asks u.asks f why) (one_weaker (Stops at.0) (IsUpTo other buckets g (λ a. ⊤) d) (λ r a. up_to_alike d at.0 r a at.1.1) u.stops k)
+          begun f (any_cause overflows t.asks u.asks f why) (one_weaker (Stops at.0) (IsUpTo other buckets g (λ a. ⊤) d) (λ r a. up_to_alike d at.0 r a at.1.1) u.stops k) (steady_alike d t.stops u.stops ((talk_alike request_limit p q bytes l).stops meant) steady)
       ended_alike overflows p q bytes d e l meant (halted f why halts) =
           let t = talk one buckets g request_limit p bytes in
           let u = talk other buckets g request_limit q bytes in

@@ -3,7 +3,7 @@ use Rattle.std.proofs.Common.{◌≡◌, ℕ, zero, suc, Bool, Option, Some, Non
 use Rattle.crdt_rows.specs.declared.version.Version.{Version}
 use Rattle.crdt_rows.specs.declared.body.Meta.{Meta}
 use Rattle.flow_model.specs.declared.flow.FlowEnd.{FlowEnd}
-use Rattle.flow_model.specs.declared.flow.FlowEnd.TheVariants.{Stored, Found, Nothing, Listed, Superseded}
+use Rattle.flow_model.specs.declared.flow.FlowEnd.TheVariants.{Stored, Found, Nothing, Listed, Superseded, Aborted}
 use Rattle.s3_model.specs.declared.ask.Ask.{Ask}
 use Rattle.s3_model.specs.declared.ask.Ask.TheVariants as ask
 use Rattle.s3_model.specs.declared.ask.Range.{Range}
@@ -121,6 +121,7 @@ module _ (r : Request) (had : Option Given) (g : Given) where
   lies_in_end (ask.Get bucket key range) (Some (Stored version meta)) first = unanswered (ask.Get bucket key range) had first
   lies_in_end (ask.Get bucket key range) (Some (Listed rows)) first = unanswered (ask.Get bucket key range) had first
   lies_in_end (ask.Get bucket key range) (Some (Superseded id)) first = unanswered (ask.Get bucket key range) had first
+  lies_in_end (ask.Get bucket key range) (Some Aborted) first = unanswered (ask.Get bucket key range) had first
   lies_in_end ask.ListBuckets end first = (end_text (asking ask.ListBuckets) end had, refl)
   lies_in_end (ask.HeadBucket bucket) end first = (end_text (asking (ask.HeadBucket bucket)) end had, refl)
   lies_in_end (ask.List bucket list delimiter url token start) end first = (end_text (asking (ask.List bucket list delimiter url token start)) end had, refl)

@@ -18,19 +18,19 @@ use Rattle.serve_model.specs.declared.admitted.Admitted.{Admitted}
 use Rattle.serve_model.specs.declared.buckets.Buckets.{Buckets}
 use Rattle.serve_model.specs.declared.request.Request.{Request}
 use Rattle.serve_model.specs.Admitting.{admitted}
-use Rattle.serve_model.specs.Stores.{Given, Store, Asking, IsFirstOf, given, given_with, gives_asked}
+use Rattle.serve_model.specs.Stores.{Upload, Job, carry, keep, leave, Given, Store, Asking, IsFirstOf, given, given_with, gives_asked}
 use Rattle.serve_model.specs.Connections.{IsPrefixOf, GetLiesWithin}
-use Rattle.serve_model.specs.Judging.{refusal_of, counted_before, order_of, answer_to, counted_after}
-use Rattle.serve_model.specs.Talk.{Grammar, Serving, kept_limit, Next, goes, closes, exceeds, Halt, Turn, request_of, clocked, counted, behind_halt, passing, having_asked, exceeded, counting, given_turn, end_turn, order_turn, plan_turn, judged_turn, whole_turn, answer_turn, body_turn, waiting_turn, request_turn, asked_turn, head_turn, cut_turn, turn, Talk, go_on, talk, interim, begun_text}
+use Rattle.serve_model.specs.Judging.{refusal_of, counted_before, upload_of, order_of, answer_to, counted_after}
+use Rattle.serve_model.specs.Talk.{Grammar, Serving, kept_limit, Next, goes, closes, exceeds, Halt, Turn, request_of, clocked, counted, behind_halt, passing, having_asked, exceeded, counting, given_turn, end_turn, asking_now, order_turn, left_turn, leaving_turn, came_turn, while_coming, plan_turn, judged_turn, whole_turn, answer_turn, body_turn, stream_turn, coming_turn, waiting_turn, request_turn, asked_turn, head_turn, cut_turn, turn, Talk, go_on, talk, interim, begun_text}
 use Rattle.serve_model.proofs.Giving.{prefix_more, prefix_behind, given_lies}
 use Rattle.serve_model.proofs.Ones.{all_mapped}
 
 -- what may be given in the middle of a get is the first of what is given in all
 abbrev GivesFirst : {S : Type 0} → Store S → Type 0
-GivesFirst {S} store = (s : S) (time : ℕ) (bucket key : List ℕ) (g : Given) → store.gives s time (order.Get bucket key) g → IsFirstOf (Some g) (given (store.carries s time (order.Get bucket key)))
+GivesFirst {S} store = (s : S) (time : ℕ) (bucket key : List ℕ) (g : Given) → store.gives s time (order.Get bucket key) g → IsFirstOf (Some g) (given (store.carries s time (carry (order.Get bucket key))))
 
 module _ {S : Type 0} (store : Store S) where
-  -- of a text, where the store gives so, and of orders
+  -- of a text, where the store gives so, and of jobs
   abbrev pub Within : List ℕ → List (Asking S) → Halt S → Type 0
   Within text asks h = (GivesFirst store → (g : Given) → gives_asked store h.asking g → IsPrefixOf (h.text ++ begun_text h.request (Some g)) text) × IsPrefixOf h.asks asks
 
@@ -89,26 +89,41 @@ module _ {S : Type 0} (store : Store S) where
     lies_in_end (ask.Copy from bucket key headers) end h = ((end_turn (asking (ask.Copy from bucket key headers)) end had p rest).text, refl)
 
   module _ (r : Request) (p : Serving S) (rest : List ℕ) (may : MayGoOn p) where
-    abbrev asked : Order → Asking S
-    asked o = record { state = p.store; time = r.time; order = o }
+    abbrev ended : Job → Turn S
+    ended job = let c = store.carries p.store r.time job in end_turn r c.end c.begun (record p { store = c.state }) rest
 
-    abbrev ended : Order → Turn S
-    ended o = let c = store.carries p.store r.time o in end_turn r c.end c.begun (record p { store = c.state }) rest
-
-    before : (o : Order) → AllWithin (having_asked (asked o) (ended o))
-    before o = let c = store.carries p.store r.time o in behind_within [] (ended o).text (asked o ∷ []) (ended o).asks (ended o).halts (end_within r c.end c.begun (record p { store = c.state }) rest)
+    before : (job : Job) → AllWithin (having_asked (asking_now r job p) (ended job))
+    before job =
+        let c = store.carries p.store r.time job in
+        behind_within [] (ended job).text (asking_now r job p ∷ []) (ended job).asks (ended job).halts (end_within r c.end c.begun (record p { store = c.state }) rest)
 
     order_within : (o : Order) → AllWithin (order_turn store r o p rest)
     order_within (order.Get bucket key) =
-        let c = store.carries p.store r.time (order.Get bucket key) in (
-          (λ first g gives. lies_in_end r c.begun (record p { store = c.state }) rest may g r.ask c.end (first p.store r.time bucket key g gives), (asked (order.Get bucket key) ∷ (ended (order.Get bucket key)).asks, refl)),
-          before (order.Get bucket key),
+        let get : Job = carry (order.Get bucket key) in
+        let c = store.carries p.store r.time get in (
+          (λ first g gives. lies_in_end r c.begun (record p { store = c.state }) rest may g r.ask c.end (first p.store r.time bucket key g gives), (asking_now r get p ∷ (ended get).asks, refl)),
+          before get,
         )
-    order_within (order.Put bucket key body headers) = before (order.Put bucket key body headers)
-    order_within (order.Head bucket key) = before (order.Head bucket key)
-    order_within (order.Delete bucket key) = before (order.Delete bucket key)
-    order_within (order.Copy from_bucket from_key bucket key headers) = before (order.Copy from_bucket from_key bucket key headers)
-    order_within (order.List bucket prefix) = before (order.List bucket prefix)
+    order_within (order.Put bucket key body headers) = before (carry (order.Put bucket key body headers))
+    order_within (order.Stream bucket key announced headers) = before (carry (order.Stream bucket key announced headers))
+    order_within (order.Head bucket key) = before (carry (order.Head bucket key))
+    order_within (order.Delete bucket key) = before (carry (order.Delete bucket key))
+    order_within (order.Copy from_bucket from_key bucket key headers) = before (carry (order.Copy from_bucket from_key bucket key headers))
+    order_within (order.List bucket prefix) = before (carry (order.List bucket prefix))
+
+    left_within : (code : Code) (end : Option FlowEnd) (q : Serving S) → AllWithin (left_turn r code end q rest)
+    left_within code None q = tt
+    left_within code (Some end) q = tt
+
+    leaving_within : (u : Upload) (code : Code) (came : List ℕ) → AllWithin (leaving_turn store r u code came p rest)
+    leaving_within u code came =
+        let c = store.carries p.store r.time (leave u came) in
+        let t = left_turn r code c.end (record p { store = c.state }) rest in
+        behind_within [] t.text (asking_now r (leave u came) p ∷ []) t.asks t.halts (left_within code c.end (record p { store = c.state }))
+
+    came_within : (u : Upload) (c : Option Code) (came : List ℕ) → AllWithin (came_turn store r u c came p rest)
+    came_within u (Some code) came = leaving_within u code came
+    came_within u None came = before (keep u came)
 
   module _ (buckets : Buckets) where
     plan_within : (r : Request) (o : Option Order) (p : Serving S) (rest : List ℕ) → MayGoOn p → AllWithin (plan_turn store buckets r o p rest)
@@ -127,8 +142,21 @@ module _ {S : Type 0} (store : Store S) where
           | false ↦ tt
         ]
 
+    stream_within : (r : Request) (u : Upload) (p : Serving S) (rest : List ℕ) → MayGoOn p → AllWithin (stream_turn store buckets r u p rest)
+    unfolding stream_turn
+    stream_within r u p rest may =
+        let came = take r.length rest in
+        elim (nat_le r.length (length rest)) as (λ b. AllWithin (passing p (while_coming store r u came p (if b then came_turn store r u (refusal_of buckets r came) came p (drop r.length rest) else leaving_turn store r u IncompleteBody came p rest)))) [
+          | true ↦ came_within r p (drop r.length rest) may u (refusal_of buckets r came) came
+          | false ↦ leaving_within r p rest may u IncompleteBody came
+        ]
+
+    at_once_or_not : (r : Request) (o : Option Upload) (p : Serving S) (rest : List ℕ) → MayGoOn p → AllWithin (coming_turn store buckets r o p rest)
+    at_once_or_not r (Some u) p rest may = stream_within r u p rest may
+    at_once_or_not r None p rest may = body_within r p rest may
+
     waiting_within : (r : Request) (p : Serving S) (rest : List ℕ) → MayGoOn p → AllWithin (waiting_turn store buckets r p rest)
-    waiting_within r p rest may = let t = body_turn store buckets r p rest in behind_within (interim r) t.text [] t.asks t.halts (body_within r p rest may)
+    waiting_within r p rest may = let t = coming_turn store buckets r (upload_of buckets r) p rest in behind_within (interim r) t.text [] t.asks t.halts (at_once_or_not r (upload_of buckets r) p rest may)
 
     request_within : (r : Request) (p : Serving S) (rest : List ℕ) → AllWithin (request_turn store buckets r p rest)
     request_within r p rest = counting_within (counted_before buckets.names r.ask r.length) p (λ q. waiting_turn store buckets r q rest) (λ q may. waiting_within r q rest may)

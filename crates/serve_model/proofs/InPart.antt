@@ -1,17 +1,17 @@
 -- What was written to the connection with which serving ended is a first part of what is stated of it.
-use Rattle.std.proofs.Common.{◌≡◌, ℕ, zero, suc, ◌==◌, Bool, Option, Some, None, IfSome, List, [], ◌∷◌, ◌++◌, refl, sym, ap, ◌∙◌, append_assoc, subst}
+use Rattle.std.proofs.Common.{◌≡◌, ℕ, zero, suc, ◌==◌, Bool, Some, None, IfSome, List, [], ◌∷◌, ◌++◌, refl, sym, ap, ◌∙◌, append_assoc, subst}
 use Rattle.std.specs.Prelude.{⊤}
 use Rattle.std.specs.List.{AllByRecursion}
 use Rattle.crdt_core.specs.Members.{OneOf}
 use Rattle.lab_outside.specs.Connection.{Connection}
-use Rattle.flow_model.specs.declared.order.Order.{Order}
 use Rattle.flow_model.specs.declared.order.Order.TheVariants as order
 use Rattle.serve_model.specs.declared.buckets.Buckets.{Buckets}
 use Rattle.serve_model.specs.declared.served.ServeFault.{ServeFault}
-use Rattle.serve_model.specs.Stores.{Given, Store, Asking, IsFirstOf, given}
-use Rattle.serve_model.specs.Talk.{Grammar, Serving, Next, goes, closes, exceeds, Stop, Halt, Turn, turn, Talk, go_on, talk, body_turn, begun_text, request_limit}
+use Rattle.serve_model.specs.Stores.{Job, carry, Given, Store, Asking, IsFirstOf, given}
+use Rattle.serve_model.specs.Talk.{Grammar, Serving, Next, goes, closes, exceeds, Stop, Halt, Turn, turn, Talk, go_on, talk, body_turn, stream_turn, begun_text, request_limit}
 use Rattle.serve_model.specs.Connections.{IsPrefixOf, LiesWithin, GetLiesWithin, IsUpTo, IsInto, EndsSo, too_many, begun, halted, AreServed, stated}
 use Rattle.serve_model.proofs.Alike.{any, AnswerAlike, Serves, Halts, AllMeant, talk_alike, into_alike, served_alike}
+use Rattle.serve_model.proofs.Telling.{tells_same}
 use Rattle.serve_model.proofs.Giving.{prefix_all}
 use Rattle.serve_model.proofs.Halting.{gets_within}
 use Rattle.serve_model.proofs.Within.{talk_within as stops_within}
@@ -19,7 +19,7 @@ use Rattle.serve_model.proofs.Ones.{one_at, at_all}
 
 -- the same store, which in the middle of a get gives a first part of what it gives in all
 abbrev in_whole : {S : Type 0} → Store S → Store S
-in_whole store = record { carries = store.carries; gives = λ s time order g. IsFirstOf (Some g) (given (store.carries s time order)) }
+in_whole store = record { carries = store.carries; gives = λ s time o g. IsFirstOf (Some g) (given (store.carries s time (carry o))) }
 
 -- a first part of a first part
 prefix_through : {A : Type 0} (xs ys zs : List A) → IsPrefixOf xs ys → IsPrefixOf ys zs → IsPrefixOf xs zs
@@ -27,8 +27,8 @@ prefix_through xs ys zs h k = (h.0 ++ k.0, sym (append_assoc xs h.0 k.0) ∙ (ap
 
 -- such states are kept by what may be asked, and what is given in the middle of a get is the first of what it gives in all
 module _ {S : Type 0} (store : Store S) (Such : S → Type 0) (May : Asking S → Type 0)
-    (keeps : (s : S) (time : ℕ) (o : Order) → Such s → May (record { state = s; time = time; order = o }) → Such (store.carries s time o).state)
-    (first : (s : S) (time : ℕ) (bucket key : List ℕ) (g : Given) → Such s → store.gives s time (order.Get bucket key) g → IsFirstOf (Some g) (given (store.carries s time (order.Get bucket key)))) where
+    (keeps : (s : S) (time : ℕ) (job : Job) → Such s → May (record { state = s; time = time; job = job }) → Such (store.carries s time job).state)
+    (first : (s : S) (time : ℕ) (bucket key : List ℕ) (g : Given) → Such s → store.gives s time (order.Get bucket key) g → IsFirstOf (Some g) (given (store.carries s time (carry (order.Get bucket key))))) where
   abbrev Same : S → S → Type 0
   Same s t = (s ≡ t) × Such s
 
@@ -37,18 +37,19 @@ module _ {S : Type 0} (store : Store S) (Such : S → Type 0) (May : Asking S �
 
   answers : AnswerAlike store (in_whole store) Same May Any
   answers = record {
-    answers = λ s t time o same may any. (
-      ap (λ (x : S). (store.carries x time o).end) same.0,
-      ap (λ (x : S). (store.carries x time o).begun) same.0,
-      (ap (λ (x : S). (store.carries x time o).state) same.0, keeps s time o same.1 may),
+    answers = λ s t time job same may any. (
+      tells_same (store.carries s time job).end (store.carries t time job).end (ap (λ (x : S). (store.carries x time job).end) same.0),
+      ap (λ (x : S). (store.carries x time job).begun) same.0,
+      (ap (λ (x : S). (store.carries x time job).state) same.0, keeps s time job same.1 may),
     );
-    gives = λ s t time bucket key g same gives. subst (λ (x : S). IsFirstOf (Some g) (given (store.carries x time (order.Get bucket key)))) same.0 (first s time bucket key g same.1 gives);
+    earlier = λ a b left any. tt;
+    gives = λ s t time bucket key g same gives. subst (λ (x : S). IsFirstOf (Some g) (given (store.carries x time (carry (order.Get bucket key))))) same.0 (first s time bucket key g same.1 gives);
   }
 
   module _ (buckets : Buckets) (g : Grammar) where
     -- both have the same turns and talks
     same_turn : (last : Bool) (p : Serving S) (bytes : List ℕ) → turn (in_whole store) buckets g last p bytes ≡ turn store buckets g last p bytes
-    unfolding body_turn
+    unfolding body_turn stream_turn
     same_turn last p bytes = refl
 
     goes_on_same : (f h : Serving S → List ℕ → Talk S) → ((p : Serving S) (bytes : List ℕ) → f p bytes ≡ h p bytes) → (t : Turn S) (n : Next) → go_on f t n ≡ go_on h t n
@@ -101,8 +102,8 @@ module _ {S : Type 0} (store : Store S) (Such : S → Type 0) (May : Asking S �
           subst IsPart (ap (λ (x : Talk S). x.text) (same_talk request_limit p bytes)) (part_through (to.0.text ++ begun_text to.0.request (Some there.0)) u.text (lies.0 there.0 there.1) there.2)
 
       pub ended_in_part : (fault : ServeFault) → EndsSo store buckets g May overflows t d fault → IsPart t.text
-      ended_in_part fault (too_many over wrote fit) = all_written t.text wrote
-      ended_in_part fault (begun e why stops) =
+      ended_in_part fault (too_many over wrote fit none) = all_written t.text wrote
+      ended_in_part fault (begun e why stops steady) =
           let at = one_at (IsUpTo store buckets g May d) t.stops stops in
           part_through at.0.text t.text (at_all (LiesWithin t) t.stops at.0 at.1.0 (stops_within store buckets g request_limit p bytes)).0 at.1.1.0
       ended_in_part fault (halted e why halts) = into halts

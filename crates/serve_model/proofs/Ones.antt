@@ -4,6 +4,11 @@ use Rattle.std.proofs.Common.{inl, inr, sym, subst}
 use Rattle.std.specs.List.{AllByRecursion}
 use Rattle.crdt_core.specs.Members.{Has, OneOf}
 
+-- all of the first of two lists, and of the second
+pub split : {A : Type 0} (P : A → Type 0) (xs ys : List A) → AllByRecursion P (xs ++ ys) → AllByRecursion P xs × AllByRecursion P ys
+split P [] ys h = (tt, h)
+split P (x ∷ xs) ys h = let k = split P xs ys h.1 in ((h.0, k.0), k.1)
+
 module _ {A : Type 0} (P Q : A → Type 0) where
   pub one_weaker : ((x : A) → P x → Q x) → (xs : List A) → OneOf P xs → OneOf Q xs
   one_weaker f [] h = absurd h

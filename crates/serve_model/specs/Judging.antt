@@ -1,12 +1,13 @@
 -- What becomes of a request whose body was read: which refusal comes first, what the store is asked, and what its end is answered with.
-use Rattle.std.specs.Prelude.{ℕ, ◌≤◌, ⊤, Bool, true, false, not, ◌&&◌, ◌||◌, List, [], length, filter, Option, Some, None, is_none, option_map, if◌then◌else◌}
+use Rattle.std.specs.Prelude.{ℕ, ◌≤◌, nat_le, ⊤, Bool, true, false, not, ◌&&◌, ◌||◌, List, [], length, filter, Option, Some, None, is_none, option_map, if◌then◌else◌}
 use Rattle.layout_text.specs.declared.keys.Access.{Access}
 use Rattle.crdt_rows.specs.declared.version.Version.{Version}
 use Rattle.crdt_rows.specs.declared.body.Meta.{Meta}
 use Rattle.flow_model.specs.declared.order.Order.{Order}
 use Rattle.flow_model.specs.declared.order.Order.TheVariants as order
 use Rattle.flow_model.specs.declared.flow.FlowEnd.{FlowEnd}
-use Rattle.flow_model.specs.declared.flow.FlowEnd.TheVariants.{Stored, Found, Nothing, Listed, Superseded}
+use Rattle.flow_model.specs.declared.flow.FlowEnd.TheVariants.{Stored, Found, Nothing, Listed, Superseded, Aborted}
+use Rattle.flow_model.specs.Blocks.{inline_limit}
 use Rattle.s3_model.specs.declared.ask.Ask.{Ask}
 use Rattle.s3_model.specs.declared.ask.Ask.TheVariants as ask
 use Rattle.s3_model.specs.declared.ask.Range.{Range}
@@ -25,6 +26,7 @@ use Rattle.serve_model.specs.declared.answer.Answer.TheVariants as answer
 use Rattle.serve_model.specs.declared.buckets.Buckets.{Buckets}
 use Rattle.serve_model.specs.declared.request.Request.{Request}
 use Rattle.serve_model.specs.Keys.{has_bucket, may_read}
+use Rattle.serve_model.specs.Stores.{Upload}
 
 -- the bucket that is asked; none for the list of all
 abbrev pub bucket_of : Ask → Option (List ℕ)
@@ -104,6 +106,16 @@ refusal_of buckets r body =
 abbrev pub counted_before : List (List ℕ) → Ask → ℕ → ℕ
 counted_before buckets ask size = if is_put ask && not (is_missing buckets (bucket_of ask) || is_long_key (key_of ask)) then size else 0
 
+-- the upload that an ask of so long a body is whose bytes are taken block by block: as many that they are kept in blocks, where neither its bucket nor its key refuses it
+abbrev pub upload_in : List (List ℕ) → ℕ → Ask → Option Upload
+upload_in buckets size (ask.Put bucket key length md5 headers) =
+    if nat_le inline_limit size && not (is_missing buckets (Some bucket) || is_long_key key) then Some (record { bucket = bucket; key = key; length = size; headers = headers }) else None
+upload_in buckets size _ = None
+
+-- the same of a request
+abbrev pub upload_of : Buckets → Request → Option Upload
+upload_of buckets r = upload_in buckets.names r.length r.ask
+
 -- what the store is asked; nothing where what is asked is about buckets alone
 abbrev pub order_of : Ask → List ℕ → Option Order
 order_of ask.ListBuckets body = None
@@ -140,6 +152,7 @@ answer_to_read range Nothing = answer.Refusal NoSuchKey
 answer_to_read range (Stored version meta) = answer.Nothing
 answer_to_read range (Listed rows) = answer.Nothing
 answer_to_read range (Superseded id) = answer.Nothing
+answer_to_read range Aborted = answer.Nothing
 
 -- an upload that stored this
 abbrev pub stored : Version → Option Meta → Answer

@@ -1,6 +1,8 @@
 pub mod Faults
 pub mod Stores
+pub mod Told
 pub mod Clusters
+pub mod Uploads
 pub mod Keys
 pub mod Admitting
 pub mod Judging

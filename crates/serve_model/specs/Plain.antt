@@ -1,5 +1,5 @@
--- A plain store: one map from names to objects, which carries out one order after the other.
-use Rattle.std.specs.Prelude.{◌≡◌, ◌≤◌, ℕ, suc, ◌+◌, ◌-◌, max, Bool, true, false, ⊤, ◌&&◌, nat_eq, if◌then◌else◌, Option, Some, None, List, [], ◌∷◌, length}
+-- A plain store: one map from names to objects, which carries out one job after the other.
+use Rattle.std.specs.Prelude.{◌≡◌, ◌⊎◌, ◌≤◌, ◌==◌, ℕ, suc, ◌+◌, ◌-◌, max, Bool, true, false, ⊤, ◌&&◌, nat_eq, if◌then◌else◌, Option, Some, None, List, [], ◌∷◌, length, take}
 use Rattle.std.specs.Option.{unwrap_or}
 use Rattle.std.specs.List.{AllByRecursion, starts_with}
 use Rattle.std.specs.Ordering.{nat_cmp, is_lt}
@@ -14,14 +14,14 @@ use Rattle.flow_model.specs.declared.flow.Content.{Content}
 use Rattle.flow_model.specs.declared.flow.Wish.{Wish}
 use Rattle.flow_model.specs.declared.flow.Wish.TheVariants as wish
 use Rattle.flow_model.specs.declared.flow.FlowEnd.{FlowEnd}
-use Rattle.flow_model.specs.declared.flow.FlowEnd.TheVariants.{Stored, Found, Nothing, Listed}
+use Rattle.flow_model.specs.declared.flow.FlowEnd.TheVariants.{Stored, Found, Nothing, Listed, Aborted}
 use Rattle.blake2_hash.specs.Blake2b.{blake2b}
 use Rattle.flow_model.specs.Blocks.{piece, has_piece, is_long}
-use Rattle.flow_model.specs.Rows.{meta_of, complete}
+use Rattle.flow_model.specs.Rows.{meta_of, complete, content_of}
 use Rattle.flow_model.specs.Says.{shown_rows}
 use Rattle.store_model.specs.Orders.{buckets_of}
 use Rattle.store_model.specs.Run.{are_buckets}
-use Rattle.serve_model.specs.Stores.{Carried, Store, Asking, IsFirstOf, given}
+use Rattle.serve_model.specs.Stores.{Upload, Job, carry, keep, leave, order_of_job, Carried, Store, Asking, IsFirstOf, given}
 
 -- what the map has under a name
 pub data Has : Type 0 where
@@ -34,13 +34,13 @@ pub record Entry : Type 0 where
   pub name : Name
   pub has : Has
 
--- the map, the buckets, the size of blocks, the time, and how many orders there were
+-- the map, the buckets, the size of blocks, the time, and how many jobs there were
 pub record Plain : Type 0 where
   pub buckets : List (List ℕ)
   pub block : ℕ  -- bytes
   pub clock : ℕ  -- milliseconds
   pub ticked : ℕ  -- to which time the clock was brought
-  pub asked : ℕ  -- orders that named buckets that are there
+  pub asked : ℕ  -- jobs that named buckets that are there
   pub entries : List Entry  -- in order of keys, each name once
 
 -- ---- the map
@@ -91,22 +91,24 @@ last_ts (object version block c) = version.ts
 abbrev pub has_at : Plain → Name → Has
 has_at P name = has_among P.entries name
 
--- nothing changes, and the order ends so
+-- nothing changes, and the job ends so
 abbrev pub tells : Plain → FlowEnd → Carried Plain
 tells P end = record { state = P; end = Some end; begun = None }
 
--- the version that a write makes: by the clock, but after what is there, and with the number of the order
+-- the version that a write makes: by the clock, but after what is there, and with the number of the job
 abbrev pub version_of : Plain → Name → Version
 version_of P name = record { ts = max P.clock (suc (last_ts (has_at P name))); id = P.asked }
 
--- what a write makes
+-- what a write makes; no order of the map wishes a stream, of which no byte is known
 abbrev pub made : Version → ℕ → Wish → Has
 made version block wish.Marker = deleted version
+made version block (wish.Stream coming) = object version block (content_of coming [])
 made version block (wish.Content c) = object version block c
 
 -- what is told of the bytes that were written, none of a delete
 abbrev pub meta_made : Wish → Option Meta
 meta_made wish.Marker = None
+meta_made (wish.Stream coming) = Some (meta_of (content_of coming []))
 meta_made (wish.Content c) = Some (meta_of c)
 
 -- something is written under a name
@@ -121,9 +123,10 @@ with_object P never f = tells P Nothing
 with_object P (deleted version) f = tells P Nothing
 with_object P (object version block c) f = f version c
 
--- the answer to an order
+-- the answer to an order; one whose bytes are still to come, of which none does, is given up
 abbrev pub answered : Plain → Order → Carried Plain
 answered P (order.Put bucket key body headers) = writes P (record { bucket = bucket; key = key }) (wish.Content (record { body = body; headers = headers }))
+answered P (order.Stream bucket key announced headers) = tells P Aborted
 answered P (order.Get bucket key) = with_object P (has_at P (record { bucket = bucket; key = key })) (λ version c. tells P (Found version (meta_of c) c.body))
 answered P (order.Head bucket key) = with_object P (has_at P (record { bucket = bucket; key = key })) (λ version c. tells P (Found version (meta_of c) []))
 answered P (order.Delete bucket key) = writes P (record { bucket = bucket; key = key }) wish.Marker
@@ -136,19 +139,29 @@ answered P (order.List bucket prefix) = tells P (Listed (shown_rows (rows_under 
 abbrev pub at_time : Plain → ℕ → Plain
 at_time P time = record P { clock = P.clock + (time - P.ticked); ticked = max P.ticked time }
 
--- one order more
+-- one job more
 abbrev pub counted : Plain → Plain
 counted P = record P { asked = suc P.asked }
 
--- what comes of an order; one that names a bucket that is not there is not carried out
-abbrev pub carried_by : Plain → ℕ → Order → Carried Plain
-carried_by P time order =
+-- an upload that is to be kept is a put of its bytes, if these are as many as were announced, or else given up
+abbrev pub kept_by : Plain → Upload → List ℕ → Carried Plain
+kept_by P u came = if length came == u.length then answered P (order.Put u.bucket u.key came u.headers) else tells P Aborted
+
+-- the answer to a job; an upload that is given up changes nothing
+abbrev pub done_for : Plain → Job → Carried Plain
+done_for P (carry o) = answered P o
+done_for P (keep u came) = kept_by P u came
+done_for P (leave u came) = tells P Aborted
+
+-- what comes of a job; one that names a bucket that is not there is not carried out
+abbrev pub carried_by : Plain → ℕ → Job → Carried Plain
+carried_by P time job =
     let now = at_time P time in
-    if are_buckets now.buckets (buckets_of order) then answered (counted now) order else record { state = now; end = None; begun = None }
+    if are_buckets now.buckets (buckets_of (order_of_job job)) then done_for (counted now) job else record { state = now; end = None; begun = None }
 
 -- the plain store: in the middle of a get it may give a first part of the object
 abbrev pub plain : Store Plain
-plain = record { carries = carried_by; gives = λ P time order g. IsFirstOf (Some g) (given (carried_by P time order)) }
+plain = record { carries = carried_by; gives = λ P time order g. IsFirstOf (Some g) (given (carried_by P time (carry order))) }
 
 -- ---- versions
 
@@ -158,7 +171,7 @@ version_in never = None
 version_in (deleted version) = Some version
 version_in (object version block c) = Some version
 
--- each version has the number of an order that was asked, and another one under each name
+-- each version has the number of a job that was asked, and another one under each name
 pub record IsNumbered (P : Plain) : Type 0 where
   pub asked : (name : Name) (version : Version) → version_in (has_at P name) ≡ Some version → version.id ≤ P.asked
   pub apart : (a b : Name) (u v : Version) → version_in (has_at P a) ≡ Some u → version_in (has_at P b) ≡ Some v → u.id ≡ v.id → a ≡ b
@@ -174,7 +187,7 @@ abbrev pub AreInOrder : List Entry → Type 0
 AreInOrder [] = ⊤
 AreInOrder (e ∷ es) = AllByRecursion (IsBefore e) es × AreInOrder es
 
--- the entries are those of a map, each key has a byte at least, and each version the number of an order
+-- the entries are those of a map, each key has a byte at least, and each version the number of a job
 pub record IsMap (P : Plain) : Type 0 where
   pub numbered : IsNumbered P
   pub ordered : AreInOrder P.entries
@@ -191,9 +204,22 @@ abbrev pub body_put : Order → List ℕ
 body_put (order.Put bucket key body headers) = body
 body_put order = []
 
+-- a block of an upload of which these bytes came: it came whole, or is the last one and all came that was announced
+pub record IsPieceOf (block : ℕ) (u : Upload) (came bytes : List ℕ) : Type 0 where
+  pub place : ℕ
+  pub there : has_piece block (take u.length came) place ≡ true
+  pub whole : (length bytes ≡ block) ⊎ (u.length ≤ length came)
+  pub bytes_are : bytes ≡ piece block (take u.length came) place
+
+-- a job puts bytes that are cut into this block
+abbrev pub PutsPiece : ℕ → Job → List ℕ → Type 0
+PutsPiece block (carry o) bytes = IsPiece block (body_put o) bytes
+PutsPiece block (keep u came) bytes = IsPieceOf block u came bytes
+PutsPiece block (leave u came) bytes = IsPieceOf block u came bytes
+
 -- what is asked puts bytes that are cut into this block
 abbrev pub PutsBlock : List ℕ → Asking Plain → Type 0
-PutsBlock bytes a = IsPiece a.state.block (body_put a.order) bytes
+PutsBlock bytes a = PutsPiece a.state.block a.job bytes
 
 -- no two such strings have one digest
 abbrev pub AreApart : (List ℕ → Type 0) → Type 0

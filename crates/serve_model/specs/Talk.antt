@@ -24,9 +24,9 @@ use Rattle.serve_model.specs.declared.answer.Answer.{Answer}
 use Rattle.serve_model.specs.declared.answer.Answer.TheVariants as answer
 use Rattle.serve_model.specs.declared.buckets.Buckets.{Buckets}
 use Rattle.serve_model.specs.declared.request.Request.{Request}
-use Rattle.serve_model.specs.Stores.{Given, Store, Asking}
+use Rattle.serve_model.specs.Stores.{Upload, Job, carry, keep, leave, Given, Store, Asking}
 use Rattle.serve_model.specs.Admitting.{admitted}
-use Rattle.serve_model.specs.Judging.{refusal_of, counted_before, order_of, reply_without, answer_to, counted_after}
+use Rattle.serve_model.specs.Judging.{refusal_of, counted_before, upload_of, order_of, reply_without, answer_to, counted_after}
 
 -- a reader of heads: what the bytes of a head say, if they say anything. There is one, and it is the only one.
 pub record Grammar : Type 0 where
@@ -78,13 +78,14 @@ abbrev pub unless_closed : Bool → List ℕ → Next
 unless_closed true rest = closes
 unless_closed false rest = goes rest
 
--- a place where a connection may be cut off: the text of which a first part is written then, the orders that the store was asked before, and what is served then
+-- a place where a connection may be cut off: the text of which a first part is written then, the jobs that the store was asked before, what is served then, and whether an upload is on its way there, which the store has to give up
 pub record Stop (S : Type 0) : Type 0 where
   pub text : List ℕ
   pub asks : List (Asking S)
   pub serving : Serving S
+  pub uploads : Bool
 
--- a get in the middle of which serving may be given up: what was written and which orders the store was asked before it, the request, and what is asked
+-- a get in the middle of which serving may be given up: what was written and which jobs the store was asked before it, the request, and what is asked
 pub record Halt (S : Type 0) : Type 0 where
   pub text : List ℕ
   pub asks : List (Asking S)
@@ -166,6 +167,11 @@ head_refusal fault path is_head now = answer_text None (Refused fault path is_he
 abbrev pub bad_head : ℕ → List ℕ
 bad_head now = head_refusal (fault_of InvalidRequest) [] false now
 
+-- the numbers below this one, the greatest first
+abbrev pub below : ℕ → List ℕ
+below zero = []
+below (suc n) = n ∷ below n
+
 module _ {S : Type 0} where
   -- the clock was asked
   abbrev pub clocked : Serving S → Serving S
@@ -177,13 +183,13 @@ module _ {S : Type 0} where
 
   -- a place where this text is written, and the store wasn't asked before
   abbrev pub stop : List ℕ → Serving S → Stop S
-  stop text p = record { text = text; asks = []; serving = p }
+  stop text p = record { text = text; asks = []; serving = p; uploads = false }
 
-  -- a place before which this text was written and these orders were asked too
+  -- a place before which this text was written and these jobs were asked too
   abbrev pub behind : List ℕ → List (Asking S) → Stop S → Stop S
-  behind text asks s = record { text = text ++ s.text; asks = asks ++ s.asks; serving = s.serving }
+  behind text asks s = record { text = text ++ s.text; asks = asks ++ s.asks; serving = s.serving; uploads = s.uploads }
 
-  -- a get before which this text was written and these orders were asked too
+  -- a get before which this text was written and these jobs were asked too
   abbrev pub behind_halt : List ℕ → List (Asking S) → Halt S → Halt S
   behind_halt text asks h = record h { text = text ++ h.text; asks = asks ++ h.asks }
 
@@ -224,21 +230,64 @@ module _ {S : Type 0} where
   end_turn r None begun p rest = given_turn r answer.Nothing begun p rest
   end_turn r (Some end) begun p rest = counting (counted_after r.ask end) p (λ q. given_turn r (answer_to r.ask end) begun q rest)
 
-  -- the get, in the middle of which serving may be given up, if the order is one
-  abbrev pub halts_of : Order → Request → Asking S → List (Halt S)
-  halts_of (order.Get bucket key) r a = record { text = []; asks = []; request = r; asking = a } ∷ []
-  halts_of o r a = []
+  -- the get, in the middle of which serving may be given up, if the job is one
+  abbrev pub halts_of : Job → Request → Asking S → List (Halt S)
+  halts_of (carry (order.Get bucket key)) r a = record { text = []; asks = []; request = r; asking = a } ∷ []
+  halts_of job r a = []
 
   -- what a get is given is written while the store is still at work: serving may be given up in the middle of it
   abbrev pub giving : Request → Asking S → Turn S → Turn S
-  giving r a t = record t { halts = halts_of a.order r a ++ t.halts }
+  giving r a t = record t { halts = halts_of a.job r a ++ t.halts }
+
+  -- a job is asked now
+  abbrev pub asking_now : Request → Job → Serving S → Asking S
+  asking_now r job p = record { state = p.store; time = r.time; job = job }
 
   -- the store carries out an order, unless it is cut off before
   abbrev pub order_turn : Store S → Request → Order → Serving S → List ℕ → Turn S
   order_turn store r o p rest =
-      let a : Asking S = record { state = p.store; time = r.time; order = o } in
-      let c = store.carries p.store r.time o in
+      let a = asking_now r (carry o) p in
+      let c = store.carries p.store r.time (carry o) in
       passing p (giving r a (having_asked a (end_turn r c.end c.begun (record p { store = c.state }) rest)))
+
+  -- ---- uploads whose bytes come block by block
+
+  -- an upload was given up, which ended so, and is refused; without an end there is no answer
+  abbrev pub left_turn : Request → Code → Option FlowEnd → Serving S → List ℕ → Turn S
+  left_turn r code None p rest = answer_turn r answer.Nothing p rest
+  left_turn r code (Some end) p rest = answer_turn r (answer.Refusal code) p rest
+
+  module _ (store : Store S) (r : Request) (u : Upload) where
+    -- the store gives the upload up after these bytes, and it is refused
+    abbrev pub leaving_turn : Code → List ℕ → Serving S → List ℕ → Turn S
+    leaving_turn code came p rest =
+        let c = store.carries p.store r.time (leave u came) in
+        having_asked (asking_now r (leave u came) p) (left_turn r code c.end (record p { store = c.state }) rest)
+
+    -- the store keeps the upload
+    abbrev pub keeping_turn : List ℕ → Serving S → List ℕ → Turn S
+    keeping_turn came p rest =
+        let c = store.carries p.store r.time (keep u came) in
+        having_asked (asking_now r (keep u came) p) (end_turn r c.end c.begun (record p { store = c.state }) rest)
+
+    -- all bytes came, which are refused or not
+    abbrev pub came_turn : Option Code → List ℕ → Serving S → List ℕ → Turn S
+    came_turn (Some code) came p rest = leaving_turn code came p rest
+    came_turn None came p rest = keeping_turn came p rest
+
+    -- a place where it may be cut off as an upload begins
+    abbrev pub uploading : Serving S → Stop S
+    uploading p = record { text = []; asks = []; serving = p; uploads = true }
+
+    -- a place where it may be cut off while the bytes come, after so many of them: then the store gives the upload up
+    abbrev pub cut_after : List ℕ → Serving S → ℕ → Stop S
+    cut_after came p n =
+        let job = leave u (take n came) in
+        record { text = []; asks = asking_now r job p ∷ []; serving = record p { store = (store.carries p.store r.time job).state }; uploads = true }
+
+    -- it may be cut off as the upload begins, and after each number of these bytes that came, but not once all have come
+    abbrev pub while_coming : List ℕ → Serving S → Turn S → Turn S
+    while_coming came p t = record t { stops = uploading p ∷ map (cut_after came p) (below (min (suc (length came)) u.length)) ++ t.stops }
 
   module _ (store : Store S) (buckets : Buckets) where
     -- nothing refuses the request before the store is asked
@@ -259,9 +308,22 @@ module _ {S : Type 0} where
     unfoldable pub body_turn : Request → Serving S → List ℕ → Turn S
     body_turn r p rest = passing p (if nat_le r.length (length rest) then whole_turn r (take r.length rest) p (drop r.length rest) else answer_turn r (answer.Refusal IncompleteBody) p rest)
 
+    -- the bytes of an upload come, and are judged once all did; or the input ends before
+    abbrev pub received_turn : Request → Upload → List ℕ → Serving S → List ℕ → Turn S
+    received_turn r u came p rest = if nat_le r.length (length rest) then came_turn store r u (refusal_of buckets r came) came p (drop r.length rest) else leaving_turn store r u IncompleteBody came p rest
+
+    -- an upload begins, unless it is cut off before, and its bytes are to come
+    unfoldable pub stream_turn : Request → Upload → Serving S → List ℕ → Turn S
+    stream_turn r u p rest = let came = take r.length rest in passing p (while_coming store r u came p (received_turn r u came p rest))
+
+    -- a body is to be read block by block, or at once
+    abbrev pub coming_turn : Request → Option Upload → Serving S → List ℕ → Turn S
+    coming_turn r (Some u) p rest = stream_turn r u p rest
+    coming_turn r None p rest = body_turn r p rest
+
     -- the interim line is written where it is to be, before the body is read
     abbrev pub waiting_turn : Request → Serving S → List ℕ → Turn S
-    waiting_turn r p rest = after (interim r) (body_turn r p rest)
+    waiting_turn r p rest = after (interim r) (coming_turn r (upload_of buckets r) p rest)
 
     -- a request was admitted
     abbrev pub request_turn : Request → Serving S → List ℕ → Turn S
@@ -288,7 +350,7 @@ module _ {S : Type 0} where
       abbrev pub turn : Bool → Serving S → List ℕ → Turn S
       turn last p bytes = passing p (cut_turn last p (cut bytes))
 
--- what is written to a connection, where it may be cut off, in which gets serving may be given up, what the store is asked, one order after the other, what is served then, and whether serving ends with it
+-- what is written to a connection, where it may be cut off, in which gets serving may be given up, what the store is asked, one job after the other, what is served then, and whether serving ends with it
 pub record Talk (S : Type 0) : Type 0 where
   pub text : List ℕ
   pub stops : List (Stop S)

@@ -1,5 +1,5 @@
 -- From what a server did to the status and the text of its end.
-use Rattle.std.proofs.Common.{◌≡◌, ◌⊎◌, ℕ, List, [], Option, Result, Ok, Err, refl, sym, ◌∙◌, subst, inl, inr}
+use Rattle.std.proofs.Common.{◌≡◌, ◌⊎◌, ℕ, List, [], Option, Result, Ok, Err, IfErr, refl, sym, ap, ◌∙◌, subst, inl, inr}
 use Rattle.std.specs.Result.{IsErrAnd}
 use Rattle.lab_outside.specs.declared.exit.Status.{Status}
 use Rattle.lab_outside.specs.declared.exit.Status.TheVariants as status
@@ -12,7 +12,10 @@ use Rattle.serve_run.specs.Plan.{WasRead}
 use Rattle.serve_run.specs.Told.{Told}
 use Rattle.lab_main.specs.Ends.{Ends, said, cut_off}
 use Rattle.lab_main.specs.Edges.{IsAfterReading, Answers}
-use Rattle.serve_run.specs.Stop.{status_of, said_of, IsOfInput, IsTold}
+use Rattle.serve_model.specs.declared.served.ServeFault.TheVariants as fault
+use Rattle.serve_loop.specs.declared.service.ServeStop.{ServeStop}
+use Rattle.serve_loop.specs.declared.service.ServeStop.TheVariants as ended
+use Rattle.serve_run.specs.Stop.{stop_of_serving, status_of, said_of, IsOfInput, IsOfServing, IsTold}
 use Rattle.serve_run.specs.Answer.{HasEnded, HasStopped, IsEnd, long_input, refused, served, link_failed, too_much, no_room, EndsSo, IsStated, IsSilent, AnswersPrefix, IsServedWhole, WantsMemory, of_server}
 
 module _ (g : Grammar) (count : ℕ) (input : Option (List ℕ)) (t : Told) where
@@ -101,6 +104,58 @@ read_status stop is Same says (inr same) = inr same
 pub no_read_status : {A : Type 0} (x : A) (is : Status) (Same : Type 0) → (◌≡◌ {A = Result A Stop} (Ok x) (Err Read)) ⊎ Same → (is ≡ status.ReadFault) ⊎ Same
 no_read_status x is Same (inl e) = absurd (cc)
 no_read_status x is Same (inr same) = inr same
+
+-- ---- a link that failed
+
+-- it didn't fail before, where that succeeded
+pub link_before : {A B : Type 0} (x : A) (r : Result B Stop) (Same : Type 0) → (◌≡◌ {A = Result A ServeStop} (Ok x) (Err ended.Link)) ⊎ Same → (r ≡ Err Link) ⊎ Same
+link_before x r Same (inl e) = absurd (cc)
+link_before x r Same (inr same) = inr same
+
+-- the same fault is handed on
+link_is : (stop : ServeStop) → stop ≡ ended.Link → stop_of_serving stop ≡ Link
+link_is stop e = ap stop_of_serving e
+
+pub link_on : {A B : Type 0} (stop : ServeStop) (r : Result B Stop) (Same : Type 0) → IsErrAnd r (λ e. e ≡ stop_of_serving stop) → (◌≡◌ {A = Result A ServeStop} (Err stop) (Err ended.Link)) ⊎ Same → (r ≡ Err Link) ⊎ Same
+link_on stop (Ok y) Same is h = absurd is
+link_on stop (Err e) Same is (inl h) = let failed : stop ≡ ended.Link = cc in inl (ap Err (is ∙ link_is stop failed))
+link_on stop (Err e) Same is (inr same) = inr same
+
+-- serving is the cause of each of its stops
+stops_serving : (why : ServeStop) → IsOfServing (stop_of_serving why)
+stops_serving ended.Link = tt
+stops_serving (ended.Fault fault.Kept) = tt
+stops_serving (ended.Fault fault.Number) = tt
+stops_serving (ended.Fault fault.Memory) = tt
+
+pub caused_on : {B : Type 0} (why : ServeStop) (r : Result B Stop) → IsErrAnd r (λ e. e ≡ stop_of_serving why) → IfErr r IsOfServing
+caused_on why (Ok y) is = absurd is
+caused_on why (Err e) is = subst IsOfServing (sym is) (stops_serving why)
+
+-- none but a failed link is told as one
+link_was : (why : ServeStop) → stop_of_serving why ≡ Link → why ≡ ended.Link
+link_was ended.Link e = refl
+link_was (ended.Fault fault.Kept) e = absurd (cc)
+link_was (ended.Fault fault.Number) e = absurd (cc)
+link_was (ended.Fault fault.Memory) e = absurd (cc)
+
+pub fault_on : {A B : Type 0} {P : Type 0} (why : ServeStop) (r : Result B Stop) → IsErrAnd r (λ e. e ≡ stop_of_serving why) → (◌≡◌ {A = Result A ServeStop} (Err why) (Err ended.Link) → P) → r ≡ Err Link → P
+fault_on why (Ok y) is h e = absurd is
+fault_on why (Err f) is h e = let same : f ≡ Link = cc in h (ap Err (link_was why (sym is ∙ same)))
+
+pub link_handed : {A B : Type 0} (stop : Stop) (r : Result B Stop) (Same : Type 0) → IsErrAnd r (λ e. e ≡ stop) → (◌≡◌ {A = Result A Stop} (Err stop) (Err Link)) ⊎ Same → (r ≡ Err Link) ⊎ Same
+link_handed stop (Ok y) Same is h = absurd is
+link_handed stop (Err e) Same is (inl h) = inl (cc)
+link_handed stop (Err e) Same is (inr same) = inr same
+
+-- it has its status, and no other end has it
+pub link_status : {A : Type 0} (stop : Stop) (is : Status) (Same : Type 0) → (stop ≡ Link → is ≡ status.LinkFault) → (◌≡◌ {A = Result A Stop} (Err stop) (Err Link)) ⊎ Same → (is ≡ status.LinkFault) ⊎ Same
+link_status stop is Same says (inl e) = inl (says (cc))
+link_status stop is Same says (inr same) = inr same
+
+pub no_link_status : {A : Type 0} (x : A) (is : Status) (Same : Type 0) → (◌≡◌ {A = Result A Stop} (Ok x) (Err Link)) ⊎ Same → (is ≡ status.LinkFault) ⊎ Same
+no_link_status x is Same (inl e) = absurd (cc)
+no_link_status x is Same (inr same) = inr same
 
 -- ---- the statuses of the reasons
 
@@ -205,6 +260,7 @@ module _ (g : Grammar) (count : ℕ) (input old new : Option (List ℕ)) (t : To
         number = h.number;
         within = h.within;
         short = h.short;
+        gone = h.gone;
         has = h.has;
         wrote = subst (Wrote old new) h.text_is wrote;
       }

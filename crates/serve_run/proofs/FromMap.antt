@@ -1,5 +1,5 @@
 -- A server's connections are served as by a server that is one map.
-use Rattle.std.proofs.Common.{◌≡◌, ◌≤◌, ◌+◌, ℕ, suc, inl, inr, List, [], ◌∷◌, ◌++◌, length, length-append, map, refl, sym, ◌∙◌, ap, subst, arith, append_assoc, append-nil}
+use Rattle.std.proofs.Common.{◌≡◌, ◌≤◌, ◌+◌, ℕ, suc, inl, inr, Option, List, [], ◌∷◌, ◌++◌, length, length-append, map, refl, sym, ◌∙◌, ap, subst, arith, append_assoc, append-nil}
 use Rattle.std.specs.Prelude.{⊤}
 use Rattle.std.proofs.lemmas.List.{append_cancel_left}
 use Rattle.lab_outside.specs.Connection.{Connection}
@@ -64,17 +64,17 @@ EndedFrom = (buckets : Buckets) (g : Grammar) (p s : Serving Changing) (P : Map)
     StandsWith p.store P → AreApart (IsServedBlock buckets g p P (came ++ bytes ∷ []) (gone ++ last ∷ [])) → NoWalkClash (IsServedHash buckets g p (came ++ bytes ∷ []) (gone ++ last ∷ [])) → AreServed changing buckets g (fits_asking changing_fits) p came gone s →
     EndsSo changing buckets g (fits_asking changing_fits) (λ asks. ⊤) (stated changing buckets g s bytes) last fault → EndsFrom P buckets g p came gone bytes last fault
 
--- whatever order had no room
+-- whatever job had no room
 module _ {S : Type 0} (store : Store S) (buckets : Buckets) (g : Grammar) (FitsIt : Asking S → Type 0) (t : Talk S) (d : Connection) (overflows : List (Asking S) → Type 0) where
-  any_order : (fault : ServeFault) → GivesUp overflows t.asks fault → GivesUp (λ (asks : List (Asking S)). ⊤) t.asks fault
-  any_order cause.Kept why = why
-  any_order cause.Number why = tt
-  any_order cause.Memory why = tt
+  any_job : (fault : ServeFault) → GivesUp overflows t.asks fault → GivesUp (λ (asks : List (Asking S)). ⊤) t.asks fault
+  any_job cause.Kept why = why
+  any_job cause.Number why = tt
+  any_job cause.Memory why = tt
 
   ends_anyhow : (fault : ServeFault) → EndsSo store buckets g FitsIt overflows t d fault → EndsSo store buckets g FitsIt (λ asks. ⊤) t d fault
-  ends_anyhow fault (too_many over wrote fit) = too_many over wrote fit
-  ends_anyhow fault (has_begun e why stops) = has_begun e (any_order e why) stops
-  ends_anyhow fault (halted e why halts) = halted e (any_order e why) halts
+  ends_anyhow fault (too_many over wrote fit none) = too_many over wrote fit none
+  ends_anyhow fault (has_begun e why stops steady) = has_begun e (any_job e why) stops steady
+  ends_anyhow fault (halted e why halts) = halted e (any_job e why) halts
 
 begun_stands : FirstStands → (p : Plan) (first : Layout) → IsOf p first → IsFirst first → NoClash p.config.buckets → 1 ≤ p.config.block_size → MayCome first (to_come_from first p.changes) → StandsWith (begun p first) (empty_map p)
 begun_stands law p first of is clash sized may =
@@ -194,9 +194,9 @@ module _ (first_stands : FirstStands) (served_from : ServedFrom) (g : Grammar) (
       from_map_here clash front gone f.at served_here apart clear
 
   -- serving ended with the last of them
-  pub end_from_map : EndedFrom → NoClash p.config.buckets → (overflows : List (Asking Changing) → Type 0) (fault : ServeFault) (past past_after : List Connection) (coming : List (List ℕ)) →
-      ServesAllButLast changing buckets g (fits_asking changing_fits) overflows (serving p first times) fault coming past past_after → AreFromMapButLast g p first buckets fault past past_after times coming
-  end_from_map ended_from clash overflows fault past past_after coming a = λ gone goes_so apart clear.
+  pub end_from_map : EndedFrom → NoClash p.config.buckets → (overflows : List (Asking Changing) → Type 0) (fault : ServeFault) (coming_after : Option (List (List ℕ))) (past past_after : List Connection) (coming : List (List ℕ)) →
+      ServesAllButLast changing buckets g (fits_asking changing_fits) overflows (serving p first times) fault coming coming_after past past_after → AreFromMapButLast g p first buckets fault coming_after past past_after times coming
+  end_from_map ended_from clash overflows fault coming_after past past_after coming a = λ gone goes_so apart clear.
       let front = a.came ++ a.bytes ∷ [] in
       let back = a.gone ++ a.last ∷ [] in
       let same : gone ≡ back = append_cancel_left past gone back (sym goes_so ∙ a.goes ∙ append_assoc past a.gone (a.last ∷ [])) in
@@ -210,6 +210,7 @@ module _ (first_stands : FirstStands) (served_from : ServedFrom) (g : Grammar) (
         bytes = a.bytes;
         to_come = a.to_come;
         comes = a.comes;
+        comes_new = a.comes_new;
         gone = a.gone;
         last = a.last;
         goes = a.goes;

@@ -1,14 +1,13 @@
 -- What was written to the connection with which serving ended is a first part of what is stated of it.
-use Rattle.std.proofs.Common.{ℕ, true, false, ◌==◌, Some, List, [], ◌∷◌, length}
+use Rattle.std.proofs.Common.{ℕ, true, false, ◌==◌, Option, Some, List, [], ◌∷◌, length}
 use Rattle.std.specs.Prelude.{cond}
 use Rattle.lab_outside.specs.Connection.{Connection}
 use Rattle.layout_roles.specs.declared.layout.Layout.{Layout}
-use Rattle.flow_model.specs.declared.order.Order.{Order}
 use Rattle.flow_model.specs.declared.order.Order.TheVariants.{Get}
 use Rattle.store_model.specs.Run.{State, start}
 use Rattle.store_model.specs.Acts.{Act, after_acts, AreLawfulActs}
 use Rattle.serve_model.specs.declared.served.ServeFault.{ServeFault}
-use Rattle.serve_model.specs.Stores.{Given, IsFirstOf, fits_asking, OverflowsAmong}
+use Rattle.serve_model.specs.Stores.{Job, Given, IsFirstOf, fits_asking, OverflowsAmong}
 use Rattle.serve_model.specs.Talk.{Grammar}
 use Rattle.serve_model.specs.Clusters.{Cluster, cluster, acts_at}
 use Rattle.serve_model.proofs.InPart.{ended_in_part, served_such}
@@ -37,16 +36,16 @@ module _ (laws : GetLaws) where
         | false ↦ λ l. known
       ] lawful
 
-  order_knows : (c : Changing) (time : ℕ) (o : Order) → Knows c → changing_fits c time o → Knows (changing.carries c time o).state
-  order_knows c time o known fit = change_knows (cluster.carries c.cluster time o).state c.to_come (laws.keeps c.cluster.run (acts_at c.cluster time o) fit.0.0 known) fit.1.0
+  job_knows : (c : Changing) (time : ℕ) (job : Job) → Knows c → changing_fits c time job → Knows (changing.carries c time job).state
+  job_knows c time job known fit = change_knows (cluster.carries c.cluster time job).state c.to_come (laws.keeps c.cluster.run (acts_at c.cluster time job) fit.0.0 known) fit.1.0
 
-  module _ (g : Grammar) (p : Plan) (first : Layout) (lawful : AreLawfulActs start (opening p.config.buckets p.config.block_size first)) (fault : ServeFault) (past past' : List Connection) (times : List ℕ) (coming : List (List ℕ)) where
+  module _ (g : Grammar) (p : Plan) (first : Layout) (lawful : AreLawfulActs start (opening p.config.buckets p.config.block_size first)) (fault : ServeFault) (coming' : Option (List (List ℕ))) (past past' : List Connection) (times : List ℕ) (coming : List (List ℕ)) where
     opened_knows : KnowsRequests (opened p first)
     opened_knows = laws.keeps start (opening p.config.buckets p.config.block_size first) lawful laws.begins
 
-    pub in_part : IsInPart g p first fault past past' times coming
+    pub in_part : IsInPart g p first fault coming' past past' times coming
     in_part = λ a.
         let last_knows : Knows a.serving.store =
-        served_such changing Knows (fits_asking changing_fits) order_knows (λ c time bucket key x known gives. laws.middle c.cluster time bucket key x known gives) p.buckets g (serving p first times) a.serving a.came a.gone opened_knows a.are_served in
-        ended_in_part changing Knows (fits_asking changing_fits) order_knows (λ c time bucket key x known gives. laws.middle c.cluster time bucket key x known gives) p.buckets g
+        served_such changing Knows (fits_asking changing_fits) job_knows (λ c time bucket key x known gives. laws.middle c.cluster time bucket key x known gives) p.buckets g (serving p first times) a.serving a.came a.gone opened_knows a.are_served in
+        ended_in_part changing Knows (fits_asking changing_fits) job_knows (λ c time bucket key x known gives. laws.middle c.cluster time bucket key x known gives) p.buckets g
         (OverflowsAmong changing changing_fits changing_lacks (begun p first)) a.serving last_knows a.bytes a.last fault a.ends

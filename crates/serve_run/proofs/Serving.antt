@@ -10,7 +10,6 @@ use Rattle.layout_roles.specs.declared.role.Role.{Role}
 use Rattle.layout_roles.specs.declared.assignment.Assignment.{Assignment}
 use Rattle.layout_roles.specs.Fits.{NodeSet}
 use Rattle.cluster_machine.specs.Layouts.{layouts}
-use Rattle.flow_model.specs.declared.order.Order.{Order}
 use Rattle.store_model.specs.Run.{State, World, start}
 use Rattle.store_model.specs.Acts.{AreLawfulActs, ActsFit, installs}
 use Rattle.store_model.specs.Fresh.{NoClash}
@@ -18,7 +17,7 @@ use Rattle.serve_model.specs.declared.served.Served.{Served}
 use Rattle.serve_model.specs.declared.served.ServeFault.{ServeFault}
 use Rattle.serve_model.specs.declared.served.ServeFault.TheVariants as fault
 use Rattle.serve_changes.specs.Changing.{Changing, changing, changing_fits, changing_lacks}
-use Rattle.serve_model.specs.Stores.{fits_asking, OverflowsAmong, known_from}
+use Rattle.serve_model.specs.Stores.{Job, fits_asking, OverflowsAmong, known_from}
 use Rattle.serve_model.specs.Talk.{Grammar, Serving}
 use Rattle.serve_model.specs.Serving.{HasState, Reached, Stands}
 use Rattle.serve_model.specs.Connections.{AreServed, ServesAll, ServesAllButLast}
@@ -44,20 +43,20 @@ use Rattle.serve_run.specs.FromMap.{AreFromMap, AreFromMapButLast}
 use Rattle.serve_run.specs.Begun.{nodes_of, to_come_from, begun, serving}
 use Rattle.serve_run.specs.Served.{all_nodes, state_after, left_after, tail, versions_of, tail_of, HasServed, IsInPart, HasBrokenOff}
 use Rattle.serve_run.specs.Stop.{stop_of_memory, stop_of_serving}
-use Rattle.serve_run.specs.Answer.{IsUnshown, LacksRoom, for_order, at_first, afterwards, within, HasStopped, HowServed}
+use Rattle.serve_run.specs.Answer.{IsUnshown, LacksRoom, for_job, at_first, afterwards, within, HasStopped, HowServed}
 use Rattle.serve_run.proofs.Opening.{after_last, world_kept}
 use Rattle.serve_run.proofs.Requests.{run_is, all_kept}
 use Rattle.serve_run.proofs.ToCome.{MayComeSo, TakeAllSo, are_changes, plan_may_come}
 use Rattle.serve_run.proofs.InPart.{GetLaws, in_part}
 use Rattle.serve_run.proofs.FromMap.{FirstStands, ServedFrom, EndedFrom, installs_first, are_from_map, end_from_map}
 
--- connections were served, and the code's cluster stands for one with the state after the orders
+-- connections were served, and the code's cluster stands for one with the state after the jobs
 pub record Left (g : Grammar) (p : Plan) (number : ℕ) (times times' : Option (List ℕ)) (coming coming' : Option (List (List ℕ))) (past past' : List Connection) (holds : Changing → Type 0) : Type 0 where
   pub has : HasServed g p number (told times times' coming coming' past past')
   pub at : Changing
   pub stands : holds at
-  pub run : at.cluster.run ≡ state_after p has.first has.orders
-  pub left : at.to_come ≡ left_after p has.first has.orders
+  pub run : at.cluster.run ≡ state_after p has.first has.jobs
+  pub left : at.to_come ≡ left_after p has.first has.jobs
 
 -- the code's clock and counts stand for what is served at first
 pub begins : (p : Plan) (first : Layout) (holds : Changing → Type 0) (times : Option (List ℕ)) (counts : Served) (ts : List ℕ) → holds (begun p first) → counts ≡ record { kept = 0; time = 0 } → times ≡ Some ts → Stands holds times counts (serving p first ts)
@@ -143,13 +142,13 @@ taken_sets (suc n) [] = refl
 taken_sets (suc n) (c ∷ cs) = ap (λ later. c.shown.certified.sets.sets ∷ later) (taken_sets n cs)
 
 -- the text is that of the layout versions that were applied and of the state that was left
-pub tail_is : (p : Plan) (first : Layout) (orders : List (ℕ × Order)) (number left : ℕ) (later : List Assignment) (text : List ℕ) → later ≡ take (length p.changes - left) (map (λ (c : Planned). c.shown.certified.sets) p.changes) → left ≡ length (left_after p first orders) →
-    (s : State) → s ≡ state_after p first orders → text ≡ tail (p.certified.sets.sets ∷ map (λ (sets : Assignment). sets.sets) later) number s → text ≡ tail_of p first orders number
-tail_is p first orders number left later text is many s e h =
+pub tail_is : (p : Plan) (first : Layout) (jobs : List (ℕ × Job)) (number left : ℕ) (later : List Assignment) (text : List ℕ) → later ≡ take (length p.changes - left) (map (λ (c : Planned). c.shown.certified.sets) p.changes) → left ≡ length (left_after p first jobs) →
+    (s : State) → s ≡ state_after p first jobs → text ≡ tail (p.certified.sets.sets ∷ map (λ (sets : Assignment). sets.sets) later) number s → text ≡ tail_of p first jobs number
+tail_is p first jobs number left later text is many s e h =
     let V : List (List NodeSet) → State → Type 0 = λ versions x. text ≡ tail versions number x in
-    let versions : p.certified.sets.sets ∷ map (λ (sets : Assignment). sets.sets) later ≡ versions_of p (length (left_after p first orders)) =
+    let versions : p.certified.sets.sets ∷ map (λ (sets : Assignment). sets.sets) later ≡ versions_of p (length (left_after p first jobs)) =
     ap (λ ys. p.certified.sets.sets ∷ map (λ (sets : Assignment). sets.sets) ys) is ∙ (ap (λ ys. p.certified.sets.sets ∷ ys) (taken_sets (length p.changes - left) p.changes) ∙ ap (versions_of p) many) in
-    subst (λ x. V (versions_of p (length (left_after p first orders))) x) e (subst (λ vs. V vs s) versions h)
+    subst (λ x. V (versions_of p (length (left_after p first jobs))) x) e (subst (λ vs. V vs s) versions h)
 
 module _ (keeps : EveryRunKeepsPromises) (first_stands : FirstStands) (served_from : ServedFrom) (g : Grammar) (p : Plan) (sized : 1 ≤ p.config.block_size) (holds0 : Changing → Type 0) (b : BeginsAs p holds0) (holds : Changing → Type 0) (counts : Served)
     (times times' : Option (List ℕ)) (coming coming' : Option (List (List ℕ))) (past past' : List Connection) where
@@ -171,29 +170,29 @@ module _ (keeps : EveryRunKeepsPromises) (first_stands : FirstStands) (served_fr
         has = record {
           first = b.first;
           is_of = b.is_of;
-          orders = leads.orders;
-          kept = all_kept p b.first keeps b.lawful b.fit leads.orders leads.fit;
+          jobs = leads.jobs;
+          kept = all_kept p b.first keeps b.lawful b.fit leads.jobs leads.fit;
           counts = counts;
-          served = none_told (λ ts cs. ServesAll changing p.buckets g (fits_asking changing_fits) (serving p b.first ts) number (λ c. (c.cluster.run ≡ state_after p b.first leads.orders) × (c.to_come ≡ left_after p b.first leads.orders)) times' counts cs coming' past past') times coming untold;
+          served = none_told (λ ts cs. ServesAll changing p.buckets g (fits_asking changing_fits) (serving p b.first ts) number (λ c. (c.cluster.run ≡ state_after p b.first leads.jobs) × (c.to_come ≡ left_after p b.first leads.jobs)) times' counts cs coming' past past') times coming untold;
           from_map = λ clash. none_told (AreFromMap g p b.first p.buckets 0 past past') times coming untold;
         };
         at = goes.0;
         stands = goes.1.0;
-        run = run_is p b.first goes.0 leads.orders leads.after;
+        run = run_is p b.first goes.0 leads.jobs leads.after;
         left = ap (λ (c : Changing). c.to_come) leads.after;
       }
 
   from_all : (number : ℕ) (ts : List ℕ) (cs : List (List ℕ)) → All ts number cs → Left g p number (Some ts) times' (Some cs) coming' past past' holds
   from_all number ts cs a =
       let leads = a.stands.store.1 in
-      let run = run_is p b.first a.serving.store leads.orders leads.after in
+      let run = run_is p b.first a.serving.store leads.jobs leads.after in
       let left = ap (λ (c : Changing). c.to_come) leads.after in
       record {
         has = record {
           first = b.first;
           is_of = b.is_of;
-          orders = leads.orders;
-          kept = all_kept p b.first keeps b.lawful b.fit leads.orders leads.fit;
+          jobs = leads.jobs;
+          kept = all_kept p b.first keeps b.lawful b.fit leads.jobs leads.fit;
           counts = counts;
           served = record {
             came = a.came;
@@ -232,7 +231,7 @@ module _ (keeps : EveryRunKeepsPromises) (first_stands : FirstStands) (served_fr
 
   -- serving ended with a connection
   abbrev ButLast : ServeFault → List ℕ → List (List ℕ) → Type 0
-  ButLast fault ts cs = ServesAllButLast changing p.buckets g (fits_asking changing_fits) (OverflowsAmong changing changing_fits changing_lacks (begun p b.first)) (serving p b.first ts) fault cs past past'
+  ButLast fault ts cs = ServesAllButLast changing p.buckets g (fits_asking changing_fits) (OverflowsAmong changing changing_fits changing_lacks (begun p b.first)) (serving p b.first ts) fault cs coming' past past'
 
   broken_off : EndedFrom → GetLaws → (fault : ServeFault) → Where (ButLast fault) times coming → HasBrokenOff g p fault (told times times' coming coming' past past')
   broken_off ended_from gets fault all =
@@ -241,13 +240,13 @@ module _ (keeps : EveryRunKeepsPromises) (first_stands : FirstStands) (served_fr
         is_of = b.is_of;
         kept = all_kept p b.first keeps b.lawful b.fit;
         served = some_told (ButLast fault) times coming all;
-        in_part = some_told (IsInPart g p b.first fault past past') times coming (λ ts e. where_some (ButLast fault ts) (IsInPart g p b.first fault past past' ts) coming (λ cs a. in_part gets g p b.first b.lawful fault past past' ts cs) (all ts e));
+        in_part = some_told (IsInPart g p b.first fault coming' past past') times coming (λ ts e. where_some (ButLast fault ts) (IsInPart g p b.first fault coming' past past' ts) coming (λ cs a. in_part gets g p b.first b.lawful fault coming' past past' ts cs) (all ts e));
         from_map = λ clash. some_told (AreFromMap g p b.first p.buckets 1 past past') times coming (λ ts e. where_some (ButLast fault ts) (AreFromMap g p b.first p.buckets 1 past past' ts) coming (λ cs a. from_here clash ts cs 1 a.came (a.bytes ∷ a.to_come) a.gone (a.last ∷ []) a.serving a.are_served a.comes (a.goes ∙ append_assoc past a.gone (a.last ∷ [])) (omega arith)) (all ts e));
         ends_from_map = λ clash.
-            some_told (AreFromMapButLast g p b.first p.buckets fault past past') times coming
+            some_told (AreFromMapButLast g p b.first p.buckets fault coming' past past') times coming
             (λ ts e.
-            where_some (ButLast fault ts) (AreFromMapButLast g p b.first p.buckets fault past past' ts) coming
-            (λ cs a. end_from_map first_stands served_from g p sized b.first b.is_of (installs_first p b.first b.lawful) b.may p.buckets ts ended_from clash (OverflowsAmong changing changing_fits changing_lacks (begun p b.first)) fault past past' cs a) (all ts e));
+            where_some (ButLast fault ts) (AreFromMapButLast g p b.first p.buckets fault coming' past past' ts) coming
+            (λ cs a. end_from_map first_stands served_from g p sized b.first b.is_of (installs_first p b.first b.lawful) b.may p.buckets ts ended_from clash (OverflowsAmong changing changing_fits changing_lacks (begun p b.first)) fault coming' past past' cs a) (all ts e));
       }
 
   -- what `serve` says of each state for which the code's cluster stood
@@ -267,7 +266,7 @@ module _ (keeps : EveryRunKeepsPromises) (first_stands : FirstStands) (served_fr
   unfolding broken_off
   has_stopped ended_from gets ended.Link goes served = left_early times coming (goes (begun p b.first) b.stands) (says_so (Err ended.Link) served)
   has_stopped ended_from gets (ended.Fault fault.Kept) goes served = broken_off ended_from gets fault.Kept (says_so (Err (ended.Fault fault.Kept)) served)
-  has_stopped ended_from gets (ended.Fault fault.Number) goes served = for_order (broken_off ended_from gets fault.Number (says_so (Err (ended.Fault fault.Number)) served)) (goes (begun p b.first) b.stands)
+  has_stopped ended_from gets (ended.Fault fault.Number) goes served = for_job (broken_off ended_from gets fault.Number (says_so (Err (ended.Fault fault.Number)) served)) (goes (begun p b.first) b.stands)
   has_stopped ended_from gets (ended.Fault fault.Memory) goes served = within (broken_off ended_from gets fault.Memory (says_so (Err (ended.Fault fault.Memory)) served))
 
   pub how_stopped : EndedFrom → GetLaws → (count : ℕ) (r : Result (List ℕ) Stop) (stop : ServeStop) → IsErrAnd r (λ e. e ≡ stop_of_serving stop) → Leaves changing changing_fits changing_lacks holds0 holds (Err stop) → Says (Err stop) → HowServed g p count (told times times' coming coming' past past') r

@@ -1,5 +1,5 @@
 -- All that is said of the command.
-use Rattle.std.proofs.Common.{◌≡◌, ◌⊎◌, ℕ, List, [], Option, None, inl, inr, refl, subst}
+use Rattle.std.proofs.Common.{◌≡◌, ◌⊎◌, ℕ, List, [], Option, Some, None, inl, inr, refl, subst}
 use Rattle.lab_outside.specs.declared.ports.Source as source
 use Rattle.lab_outside.specs.declared.ports.Sink as sink
 use Rattle.lab_outside.specs.declared.ports.Link as ports
@@ -40,15 +40,15 @@ begins_of Stated status.WriteFault old new answers prefix silent = let p = prefi
 begins_of Stated status.ReadFault old new answers prefix silent = nothing (silent tt)
 begins_of Stated status.Memory old new answers prefix silent = nothing (silent tt)
 
-module _ {I O L C : Type 0} (i : source.Ghosts I) (o : sink.Ghosts O) (l : ports.Ghosts L) (smaller : SmallerSizes) (g : Grammar) (count : ℕ) (result : Status) (input input' : I) (output output' : O) (link link' : L) (clock clock' : C) (t : Told) where
+module _ {I O L C : Type 0} (i : source.Ghosts I) (o : sink.Ghosts O) (l : ports.Ghosts L) (smaller : SmallerSizes) (g : Grammar) (port count : ℕ) (result : Status) (input input' : I) (output output' : O) (link link' : L) (clock clock' : C) (t : Told) where
   pub serves : Reads i result input input' → (IsStated result → Answers (IsEnd g count (i.left input) t) result (o.written output) (o.written output')) →
       (result ≡ status.WriteFault → AnswersPrefix (IsEnd g count (i.left input) t) (o.written output) (o.written output')) → (IsSilent result → Wrote (o.written output) (o.written output') []) → (result ≡ status.Memory → WantsMemory g (i.left input) t) →
       (result ≡ status.Usage → ⊥) → (result ≡ status.ReadFault → output' ≡ output) → ((result ≡ status.Refused) ⊎ (result ≡ status.ReadFault) → (link' ≡ link) × (clock' ≡ clock)) → (IsTooLong (i.left input) → (link' ≡ link) × (clock' ≡ clock)) →
       (result ≡ status.WriteFault → Rose (o.faults output) (o.faults output')) → ((result ≡ status.WriteFault) ⊎ (o.faults output' ≡ o.faults output)) → (result ≡ status.LinkFault → Rose (l.faults link) (l.faults link')) →
-      l.present link' ≡ None →
+      ((result ≡ status.LinkFault) ⊎ (l.faults link' ≡ l.faults link)) → l.present link' ≡ None → (result ≡ status.Done → l.open_at link' ≡ Some port) →
       OnlySignedIsServed g →
-      ServesSo i o l g count result input input' output output' link link' clock clock' t
-  serves reads answers prefix silent wants no_usage unwritten untouched unopened write_fault write_told link_fault absent signed =
+      ServesSo i o l g port count result input input' output output' link link' clock clock' t
+  serves reads answers prefix silent wants no_usage unwritten untouched unopened write_fault write_told link_fault link_told absent opened signed =
       let as_done : Status → Type 0 = λ s. IsStated s → Answers (IsEnd g count (i.left input) t) s (o.written output) (o.written output') in
       record {
         edges = record {
@@ -74,6 +74,8 @@ module _ {I O L C : Type 0} (i : source.Ghosts I) (o : sink.Ghosts O) (l : ports
           | inr (inr long) ↦ unopened long
         ];
         link_fault = link_fault;
+        link_told = link_told;
         absent = absent;
+        opened = opened;
         signed = signed;
       }

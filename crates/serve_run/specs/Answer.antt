@@ -1,5 +1,5 @@
 -- What the program answers: the status and the text that are stated for its words and for what the outside tells.
-use Rattle.std.specs.Prelude.{◌≡◌, ℕ, ◌<◌, ◌≤◌, ⊤, IsTrue, List, [], length, Option, Some, IfSome, Result, Ok, Err}
+use Rattle.std.specs.Prelude.{◌≡◌, ℕ, ◌+◌, ◌<◌, ◌≤◌, ⊤, IsTrue, List, [], length, Option, Some, IfSome, Result, Ok, Err}
 use Rattle.std.specs.List.{list_any}
 use Rattle.lab_outside.specs.declared.exit.Status.{Status}
 use Rattle.lab_outside.specs.declared.exit.Status.TheVariants as status
@@ -26,20 +26,21 @@ use Rattle.serve_run.specs.Stop.{kept_line, status_of, said_of, IsTold}
 abbrev pub IsUnshown : State → Type 0
 IsUnshown s = IsTrue (list_any (is_unshown s.world) all_nodes)
 
--- serving ended with a connection, and orders lead to a state in which an order can be asked that has no room; or after so many connections a node can't be shown
+-- serving ended with a connection, and jobs lead to a state in which a job can be asked that has no room; or after so many connections a node can't be shown
 pub data LacksRoom (g : Grammar) (p : Plan) (t : Told) : Type 0 where
-  for_order : (has : HasBrokenOff g p fault.Number t) → Overflows changing changing_fits changing_lacks (begun p has.first) → LacksRoom g p t
-  to_show : (number : ℕ) → (has : HasServed g p number t) → IsUnshown (state_after p has.first has.orders) → LacksRoom g p t
+  for_job : (has : HasBrokenOff g p fault.Number t) → Overflows changing changing_fits changing_lacks (begun p has.first) → LacksRoom g p t
+  to_show : (number : ℕ) → (has : HasServed g p number t) → IsUnshown (state_after p has.first has.jobs) → LacksRoom g p t
 
 -- ---- why serving ends
 
--- so many connections were served, no more than were asked for, and fewer only where no more come; and this is the text of the layout versions that were applied and of the state that they left
+-- so many connections were served, no more than were asked for, and fewer only where no more come; so many more are past, whatever the link tells; and this is the text of the layout versions that were applied and of the state that they left
 pub record HasEnded (g : Grammar) (p : Plan) (count : ℕ) (t : Told) (text : List ℕ) : Type 0 where
   pub number : ℕ
   pub within : number ≤ count
   pub short : number < count → IfSome t.coming (λ coming. t.coming_after ≡ Some [])
+  pub gone : length t.past_after ≡ length t.past + number
   pub has : HasServed g p number t
-  pub text_is : text ≡ tail_of p has.first has.orders number
+  pub text_is : text ≡ tail_of p has.first has.jobs number
 
 -- memory was wanting before a connection was served, or after so many, or with one more, with which serving ended
 pub data IsWanting (g : Grammar) (p : Plan) (t : Told) : Type 0 where
@@ -100,15 +101,16 @@ pub record AnswersPrefix (Stated : Status → List ℕ → Type 0) (old new : Op
   pub stated : Stated is text
   pub wrote : WrotePrefix old new text
 
--- what Done says: the plan is the one that the input says; so many connections were served, no more than are asked for, and fewer only where no more come; each was written what is stated of its bytes; all that was done keeps what is promised; and what was written to the output is the text of the layout versions that were applied and of the state that was left
+-- what Done says: the plan is the one that the input says; so many connections were served, no more than are asked for, and fewer only where no more come, and so many more are past, whatever the link tells; each was written what is stated of its bytes; all that was done keeps what is promised; and what was written to the output is the text of the layout versions that were applied and of the state that was left
 pub record IsServedWhole (g : Grammar) (count : ℕ) (input old new : Option (List ℕ)) (t : Told) : Type 0 where
   pub plan : Plan
   pub was_read : WasRead input plan
   pub number : ℕ
   pub within : number ≤ count
   pub short : number < count → IfSome t.coming (λ coming. t.coming_after ≡ Some [])
+  pub gone : length t.past_after ≡ length t.past + number
   pub has : HasServed g plan number t
-  pub wrote : Wrote old new (tail_of plan has.first has.orders number)
+  pub wrote : Wrote old new (tail_of plan has.first has.jobs number)
 
 -- what Memory says: memory was wanting before the input was read, or of a server of the plan that it says
 pub data WantsMemory (g : Grammar) (input : Option (List ℕ)) (t : Told) : Type 0 where

@@ -67,7 +67,9 @@ fn served<L: Link, C: Clock>(
     ensures how { (g : Grammar) → HowServed g plan server.count (told (C.times clock.old) (C.times clock.new) (L.coming link.old) (L.coming link.new) (L.past link.old) (L.past link.new)) result }
     ensures causes { IfErr result IsOfServing }
     ensures fault { result ≡ Err Stop.Link → Rose (L.faults link.old) (L.faults link.new) }
+    ensures told { (result ≡ Err Stop.Link) ⊎ (L.faults link.new ≡ L.faults link.old) }
     ensures absent { L.present link.new ≡ None }
+    ensures opened { OnOk result (L.open_at link.new ≡ Some server.port) }
 {
     promises_are_kept();
     a_first_layout_stands_with_the_empty_map();
@@ -123,7 +125,9 @@ fn read_and_served<I: Source, L: Link, C: Clock>(
     ensures read_fault { result ≡ Err Stop.Read → Rose (I.faults input.old) (I.faults input.new) }
     ensures read_told { (result ≡ Err Stop.Read) ⊎ (I.faults input.new ≡ I.faults input.old) }
     ensures link_fault { result ≡ Err Stop.Link → Rose (L.faults link.old) (L.faults link.new) }
+    ensures link_told { (result ≡ Err Stop.Link) ⊎ (L.faults link.new ≡ L.faults link.old) }
     ensures absent { L.present link.new ≡ None }
+    ensures opened { OnOk result (L.open_at link.new ≡ Some server.port) }
 {
     let plan = read_plan(alloc, input)?;
     let text = served(alloc, plan, server, link, clock)?;
@@ -134,6 +138,7 @@ fn read_and_served<I: Source, L: Link, C: Clock>(
 fn stopped<O: Sink>(output: &mut O, stop: &Stop) -> Status
     ensures told { result ≡ Status.WriteFault → IsTold stop.now }
     ensures read { stop.now ≡ Stop.Read → result ≡ Status.ReadFault }
+    ensures link { stop.now ≡ Stop.Link → result ≡ Status.LinkFault }
     ensures unwritten { result ≡ Status.ReadFault → output.new ≡ output.old }
     ensures write_told { (result ≡ Status.WriteFault) ⊎ (O.faults output.new ≡ O.faults output.old) }
     ensures ends { Ends (status_of stop.now) (said_of stop.now) result (O.written output.old) (O.written output.new) (O.faults output.old) (O.faults output.new) }
@@ -174,7 +179,9 @@ fn serve_and_tell<I: Source, O: Sink, L: Link, C: Clock>(
     ensures read_told { (result ≡ Status.ReadFault) ⊎ (I.faults input.new ≡ I.faults input.old) }
     ensures write_told { (result ≡ Status.WriteFault) ⊎ (O.faults output.new ≡ O.faults output.old) }
     ensures link_fault { result ≡ Status.LinkFault → Rose (L.faults link.old) (L.faults link.new) }
+    ensures link_told { (result ≡ Status.LinkFault) ⊎ (L.faults link.new ≡ L.faults link.old) }
     ensures absent { L.present link.new ≡ None }
+    ensures opened { result ≡ Status.Done → L.open_at link.new ≡ Some server.port }
 {
     match read_and_served(alloc, server, input, link, clock) {
         Ok(text) => ends(output, text.as_slice(), Status::Done),
@@ -214,7 +221,7 @@ pub fn run_server<I: Source, O: Sink, L: Link, C: Clock>(
     clock: &mut C,
 ) -> Status
     requires absent { L.present link.old ≡ None }
-    ensures serves { (g : Grammar) → Serves I.Source O.Sink L.Link C.Clock g server.count result input.old input.new output.old output.new
+    ensures serves { (g : Grammar) → Serves I.Source O.Sink L.Link C.Clock g server.port server.count result input.old input.new output.old output.new
         link.old link.new clock.old clock.new }
     ensures no_usage { result ≡ Status.Usage → ⊥ }
 {

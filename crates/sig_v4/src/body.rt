@@ -1,5 +1,6 @@
 //! What is signed of a body.
-ghost use Rattle.std.specs.Prelude.{◌≡◌, IfOk};
+ghost use Rattle.std.specs.Prelude.{◌≡◌, ℕ, List, IfOk};
+ghost use Rattle.sha2.specs.Sha256.{sha256};
 ghost use Rattle.crdt_core.specs.Outcomes.{OnlyWant};
 ghost use Rattle.sig_v4.specs.Bodies as spec;
 
@@ -24,6 +25,14 @@ pub fn is_body_of(alloc: Global, digest: &[u8], body: &[u8]) -> Result<bool, Mem
     ensures same { IfOk result (λ same. same ≡ spec.is_body_of digest.now body.now) }
     ensures want { OnlyWant result }
 {
-    let due = hexadecimal(alloc, &Sha256::digest(body))?;
+    is_sha256(alloc, digest, &Sha256::digest(body))
+}
+
+/// The same of a body of which the SHA-256 is known.
+pub fn is_sha256(alloc: Global, digest: &[u8], sum: &[u8; 32]) -> Result<bool, Memory>
+    ensures same { IfOk result (λ same. (body : List ℕ) → sum.now ≡ sha256 body → same ≡ spec.is_body_of digest.now body) }
+    ensures want { OnlyWant result }
+{
+    let due = hexadecimal(alloc, sum)?;
     Ok(digest == due.as_slice())
 }

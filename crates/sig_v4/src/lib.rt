@@ -17,7 +17,7 @@ mod refusal;
 mod signed;
 mod signing;
 
-pub use crate::body::is_body_of;
+pub use crate::body::{is_body_of, is_sha256};
 pub use crate::checked::check;
 pub use crate::mac::hmac_sha256;
 pub use crate::refusal::Refusal;

@@ -17,9 +17,11 @@ use Rattle.serve_model.specs.declared.answer.Answer.TheVariants as answer
 use Rattle.serve_model.specs.declared.buckets.Buckets.{Buckets}
 use Rattle.serve_model.specs.declared.request.Request.{Request}
 use Rattle.serve_model.specs.Keys.{may}
-use Rattle.serve_model.specs.Judging.{refusal_of, order_of}
-use Rattle.serve_model.specs.Stores.{Given, Store}
-use Rattle.serve_model.specs.Talk.{Grammar, Serving, Halt, request_of, interim, text_of, begun_text, head_refusal, clocked, turn}
+use Rattle.serve_model.specs.Judging.{refusal_of, upload_of, order_of}
+use Rattle.serve_model.specs.declared.upload.Upload.{Upload}
+use Rattle.serve_model.specs.Stores.{Job, carry, keep, leave, Given, Store, Asking}
+use Rattle.serve_model.specs.Connections.{IsPrefixOf}
+use Rattle.serve_model.specs.Talk.{Grammar, Serving, Stop, Halt, request_of, interim, text_of, begun_text, head_refusal, clocked, turn}
 
 -- a key signed the head at this time, it may ask what the head asks, and the length is in order
 pub record IsAllowed (access : Access) (now : ℕ) (head : Head) (a : Admitted) : Type 0 where
@@ -49,12 +51,11 @@ pub record IsRequest (buckets : Buckets) (g : Grammar) (last : Bool) (now : ℕ)
   pub body_is : body ≡ take r.length rest
   pub unrefused : refusal_of buckets r body ≡ None
 
--- the order is what such a request asks
-pub record IsAsked (buckets : Buckets) (g : Grammar) (last : Bool) (now : ℕ) (bytes : List ℕ) (order : Order) : Type 0 where
-  pub request : Request
-  pub body : List ℕ
-  pub is_request : IsRequest buckets g last now bytes request body
-  pub asks : order_of request.ask body ≡ Some order
+-- the job is what such a request asks, to keep the upload that it is, or to give the upload up that a head asks which is allowed, after a first part of the bytes behind it
+pub data IsAsked (buckets : Buckets) (g : Grammar) (last : Bool) (now : ℕ) (bytes : List ℕ) (job : Job) : Type 0 where
+  ordered : (r : Request) (body : List ℕ) (o : Order) → IsRequest buckets g last now bytes r body → order_of r.ask body ≡ Some o → job ≡ carry o → IsAsked buckets g last now bytes job
+  kept : (r : Request) (body : List ℕ) (u : Upload) → IsRequest buckets g last now bytes r body → upload_of buckets r ≡ Some u → job ≡ keep u body → IsAsked buckets g last now bytes job
+  given_up : (r : Request) (rest came : List ℕ) (u : Upload) → IsAdmitted buckets g last now bytes r rest → upload_of buckets r ≡ Some u → IsPrefixOf came rest → job ≡ leave u came → IsAsked buckets g last now bytes job
 
 -- a refusal has the status of its code
 abbrev pub IsOfCode : S3Fault → Type 0
@@ -76,9 +77,13 @@ pub record IsGot {S : Type 0} (buckets : Buckets) (g : Grammar) (last : Bool) (n
   pub text : halt.text ≡ interim halt.request
 
 module _ {S : Type 0} (store : Store S) (buckets : Buckets) (g : Grammar) where
-  -- whatever is served, with whatever bytes to come: the store is asked only what such a request asks
+  -- whatever is served, with whatever bytes to come: the store is asked only what such a request asks, also where the connection is cut off
   abbrev pub OnlySignedIsCarriedOut : Type 0
-  OnlySignedIsCarriedOut = (last : Bool) (p : Serving S) (bytes : List ℕ) → AllByRecursion (λ a. IsAsked buckets g last (clocked p).time bytes a.order) (turn store buckets g last p bytes).asks
+  OnlySignedIsCarriedOut =
+      (last : Bool) (p : Serving S) (bytes : List ℕ) →
+      (let t = turn store buckets g last p bytes in
+      let Asked : List (Asking S) → Type 0 = AllByRecursion (λ a. IsAsked buckets g last (clocked p).time bytes a.job) in
+      Asked t.asks × AllByRecursion (λ (stop : Stop S). Asked stop.asks) t.stops)
 
   -- and only such a request is answered otherwise than by a refusal, also where serving is given up in the middle of a get
   abbrev pub OnlyAllowedIsAnswered : Type 0

@@ -21,7 +21,7 @@ ghost use Rattle.serve_changes.specs.Changing.{changing};
 ghost use Rattle.signed_laws.specs.Allowed.{IsAllowed, OnlySignedIsCarriedOut, OnlyAllowedIsAnswered};
 
 /// Where keys are configured, the store is asked only what a request asks whose head a key signed that may ask it, and
-/// whose length and body nothing refuses.
+/// whose length and body nothing refuses, or to give an upload up that such a head asks; also where the connection is cut off.
 pub fn only_signed_requests_are_carried_out()
     ensures of_map { (buckets : Buckets) (g : Grammar) → is_empty buckets.access.keys ≡ false → OnlySignedIsCarriedOut plain buckets g }
     ensures of_cluster { (buckets : Buckets) (g : Grammar) → is_empty buckets.access.keys ≡ false → OnlySignedIsCarriedOut cluster buckets g }

@@ -3,7 +3,7 @@ use Rattle.history_model.specs.declared.record.Kind.TheVariants as kind
 use Rattle.history_model.specs.declared.record.Record.{Record}
 use Rattle.history_model.specs.Fresh.{Below, IsAcknowledged}
 use Rattle.blake2_hash.specs.Hash.{digest_of}
-use Rattle.flow_model.specs.declared.flow.FlowStep.TheVariants.{More, Wait, End}
+use Rattle.flow_model.specs.declared.flow.FlowStep.TheVariants.{More, Need, Wait, End}
 use Rattle.std.specs.Prelude.{◌≡◌, ◌≤◌, ◌<◌, ◌*◌, ◌^◌, nat_lt, ℕ, zero, suc, true, false, Option, Some, None, List, [], ◌∷◌, ◌++◌, length, refl, ⊤, ◌+◌, ◌⊎◌}
 use Rattle.std.specs.Option.{unwrap_or}
 use Rattle.std.proofs.Common.{ap, sym, subst, ◌∙◌, le_refl, arith, inl, inr}
@@ -29,10 +29,10 @@ use Rattle.flow_model.specs.declared.flow.Wish.TheVariants as wish
 use Rattle.flow_model.specs.declared.flow.Aim.{Aim}
 use Rattle.flow_model.specs.declared.flow.Aim.TheVariants as aim
 use Rattle.flow_model.specs.declared.flow.Stage.{Stage}
-use Rattle.flow_model.specs.declared.flow.Stage.TheVariants.{Drawing, Uploading, Completing, Looking, Opening, Gathering, Listing}
+use Rattle.flow_model.specs.declared.flow.Stage.TheVariants.{Drawing, Uploading, Receiving, Needing, Aborting, Completing, Looking, Opening, Gathering, Listing}
 use Rattle.flow_model.specs.declared.flow.Flow.{Flow}
 use Rattle.flow_model.specs.declared.flow.FlowStep.{FlowStep}
-use Rattle.flow_model.specs.declared.flow.FlowEnd.TheVariants.{Stored, Found, Nothing, Listed, Superseded}
+use Rattle.flow_model.specs.declared.flow.FlowEnd.TheVariants.{Stored, Found, Nothing, Listed, Superseded, Aborted}
 use Rattle.flow_model.specs.Blocks.{has_piece, is_long}
 use Rattle.flow_model.specs.Rows.{meta_of, uploading, block_rows, version_row, reference_row}
 use Rattle.flow_model.specs.Says.{Said, none, marked, inline, in_blocks, said_of, Named, whole, deleted, named_by, shown_rows}
@@ -52,7 +52,7 @@ use Rattle.flow_model.specs.Flow.{asks_for, asks_past}
 use Rattle.flow_model.specs.Next.{opens}
 use Rattle.flow_laws.specs.Pieces.{pieces, named_piece, named_pieces}
 use Rattle.flow_laws.proofs.Cut.{all as all_pieces}
-use Rattle.store_model.specs.Answers.{record_of, line_of}
+use Rattle.store_model.specs.Answers.{record_of, entries, lines_of, pair, found_line, word_of, lines_of_end}
 use Rattle.store_model.specs.Fresh.{NoClash}
 use Rattle.store_model.specs.Run.{Outcome, doing, plainly}
 use Rattle.store_model.specs.Written.{IsWritten}
@@ -65,18 +65,26 @@ use Rattle.store_laws.proofs.Values.{read_written}
 use Rattle.store_laws.proofs.Acting.{number_fits}
 use Rattle.store_anchors.specs.Copied.{Copying, IsTaken}
 use Rattle.store_anchors.specs.Stored.{blocks_of}
-use Rattle.store_anchors.specs.Whole.{SaysAllBytes, IsWhole}
+use Rattle.store_anchors.specs.Whole.{SaysAllBytes}
 use Rattle.store_anchors.proofs.Cited.{Cited}
 use Rattle.store_anchors.proofs.Kept.{IsFound, AsksNames, Fetches, IsPassed, IsReplaced}
 use Rattle.store_anchors.proofs.Laid.{blocks_old}
-use Rattle.store_anchors.proofs.Lines.{Tells, tells_none, tells_one, step_whole, nothing_whole, stored_whole, get_whole, head_whole}
+use Rattle.store_anchors.proofs.Lines.{Tells, tells_later, tells_none, tells_one, step_whole, nothing_whole, stored_whole, get_whole, head_whole}
 use Rattle.store_anchors.proofs.Naming.{named}
 use Rattle.store_anchors.proofs.Reading.{finds, piece_there}
 use Rattle.store_anchors.proofs.Sources.{not_below, said_found}
-use Rattle.store_anchors.proofs.Taking.{AreTaken, FollowsCopies, HasBegun, HasSource, IsFollowed, IsFollowedIn, Knows, KnowsOn, followed_first, followed_set, followed_told}
-use Rattle.store_anchors.proofs.Told.{AreApart}
-use Rattle.store_anchors.proofs.Going.{GoesLaid}
-use Rattle.store_laws.proofs.Elements.{there}
+use Rattle.store_anchors.proofs.Taking.{AreTaken, FollowsCopies, HasBegun, HasSource, IsFollowed, IsFollowedIn, IsOfSource, Knows, KnowsOn, followed_first, followed_set, followed_told}
+use Rattle.cluster_machine.specs.declared.line.Line.TheVariants.{Done, Listed as Shows, Ended as HasEnded}
+use Rattle.cluster_machine.specs.declared.line.EndWord.TheVariants.{Superseded as EndedSo}
+use Rattle.flow_model.specs.Next.{wanted}
+use Rattle.store_model.specs.Written.{IsOneWrite}
+use Rattle.store_laws.proofs.Once.{one_name}
+use Rattle.store_laws.proofs.Rows.{IsKnown}
+use Rattle.store_anchors.proofs.Fated.{IsFatedIn}
+use Rattle.store_anchors.proofs.Laid.{HasReceived, AreStored, Holds}
+use Rattle.store_anchors.proofs.Told.{AreApart, one_known}
+use Rattle.store_anchors.proofs.Going.{GoesLaid, announcing_laid, needs_laid}
+use Rattle.store_laws.proofs.Elements.{there, only}
 use Rattle.store_laws.proofs.Ends.{IsEnd, HasRead}
 use Rattle.store_laws.proofs.Going.{flow_of}
 use Rattle.store_laws.proofs.Grown.{Rests}
@@ -98,6 +106,24 @@ pub record IsBodyOf (blocks : List (List ℕ)) (draws : List Draw) (v : Version)
   pub was_written : IsWritten draws v content
   pub meta_is : meta ≡ meta_of content
   pub body_is : (is_long content.body ≡ true → NoClash blocks) → body ≡ content.body
+
+-- request p ended superseded with this identifier: the version was overwritten, and it is one of the source where the request is a copy
+pub record EndsRightly (moves : List Moving) (s : State) (p id : ℕ) : Type 0 where
+  pub replaced : IsReplaced (past moves s.world s.draws) s.asked p id
+  pub source : (copy : Copying) → copy.request ≡ p → IsFollowedIn moves s copy → IsOfSource s.draws copy id
+
+-- a request ends otherwise than superseded
+abbrev pub IsOtherwise : FlowEnd → Type 0
+IsOtherwise (Superseded id) = ⊥
+IsOtherwise end = ⊤
+
+otherwise_recorded : (q : ℕ) (end : FlowEnd) → IsOtherwise end → (p id : ℕ) → record_of q end ≡ Ended p (WasSuperseded id) → ⊥
+otherwise_recorded q (Stored v meta) other p id e = cc
+otherwise_recorded q (Found v meta body) other p id e = cc
+otherwise_recorded q Nothing other p id e = cc
+otherwise_recorded q (Listed rows) other p id e = cc
+otherwise_recorded q (Superseded k) other p id e = other
+otherwise_recorded q Aborted other p id e = cc
 
 says_all : (blocks : List (List ℕ)) (draws : List Draw) (v : Version) (meta : Meta) (body : List ℕ) → IsBodyOf blocks draws v meta body → NoClash blocks → SaysAllBytes draws v (Some (length body)) (Some (md5 body))
 says_all blocks draws v meta body h clash =
@@ -156,7 +182,7 @@ module _ {H : List ℕ → Type 0} where
         (followed_set (blocks_of moves) s.draws s.asked s.history q a at ds flow own (λ copy request it. knows copy (request, it)) copy h)
 
     -- the request draws and goes on
-    draws_on : (ds : List Draw) (stage : Stage) (phase : Phase AnyRow) → GoesLaid cited moves s q a at rests block laid ds stage phase → AllByRecursion (λ (d : Draw). d.request ≡ q) ds →
+    pub draws_on : (ds : List Draw) (stage : Stage) (phase : Phase AnyRow) → GoesLaid cited moves s q a at rests block laid ds stage phase → AllByRecursion (λ (d : Draw). d.request ≡ q) ds →
         ((copy : Copying) → IsIt copy → Knows (blocks_of moves) (ds ++ s.draws) copy stage × AreTaken (blocks_of moves) copy (ds ++ s.draws)) → StepLaid ds (More (flow_of q block stage) phase)
     draws_on ds stage phase h own knows fits = (
       h fits,
@@ -167,16 +193,49 @@ module _ {H : List ℕ → Type 0} where
       )),
     )
 
-    goes : (stage : Stage) (phase : Phase AnyRow) → GoesLaid cited moves s q a at rests block laid [] stage phase → ((copy : Copying) → IsIt copy → Knows (blocks_of moves) s.draws copy stage) → StepLaid [] (More (flow_of q block stage) phase)
+    pub goes : (stage : Stage) (phase : Phase AnyRow) → GoesLaid cited moves s q a at rests block laid [] stage phase → ((copy : Copying) → IsIt copy → Knows (blocks_of moves) s.draws copy stage) → StepLaid [] (More (flow_of q block stage) phase)
     goes stage phase h knows = draws_on [] stage phase h tt (λ copy it. (knows copy it, it.1.taken))
 
-    ends : (end : FlowEnd) → ((p id : ℕ) → record_of q end ≡ Ended p (WasSuperseded id) → IsReplaced here s.asked p id) → (NoClash here.blocks → IsWhole s.draws (line_of q a.kind end)) → StepLaid [] (End end)
-    ends end passed is_whole fits =
+    ends : (end : FlowEnd) → ((p id : ℕ) → record_of q end ≡ Ended p (WasSuperseded id) → EndsRightly moves s p id) → Tells here (lines_of_end q a.kind end) → StepLaid [] (End end)
+    ends end passed tells fits =
         let m : Moving = plainly (step.Close q) in (
-          finishes_laid cited moves s q a at rests block laid end passed fits,
-          tells_one (past (moves ++ m ∷ []) (doing s m).world s.draws) (line_of q a.kind end) (λ clash. is_whole (λ x y h k e. clash x y (blocks_old moves m x h) (blocks_old moves m y k) e)),
-          λ copy h. followed_told (blocks_of (moves ++ m ∷ [])) s.draws (set_flow s q a None) s.history (record_of q end ∷ []) copy (follows [] None (m ∷ []) tt (λ copy it. ((λ f e. cc), it.1.taken)) copy h),
+          finishes_laid cited moves s q a at rests block laid end (λ p id e. (passed p id e).replaced) fits,
+          tells_later here (past (moves ++ m ∷ []) (doing s m).world s.draws) (λ d c. c) (blocks_old moves m) (lines_of_end q a.kind end) tells,
+          λ copy h. followed_told (blocks_of (moves ++ m ∷ [])) s.draws (set_flow s q a None) s.history (record_of q end ∷ []) copy
+              (λ id c. (passed copy.request id (only (record_of q end) (Ended copy.request (WasSuperseded id)) c)).source copy refl h)
+              (follows [] None (m ∷ []) tt (λ copy it. ((λ f e. cc), it.1.taken)) copy h),
         )
+
+    ends_otherwise : (end : FlowEnd) → IsOtherwise end → Tells here (lines_of_end q a.kind end) → StepLaid [] (End end)
+    ends_otherwise end other tells = ends end (λ p id e. absurd (otherwise_recorded q end other p id e)) tells
+
+    -- it needs its client
+    needs : (stage : Stage) → Holds here q block stage → ((copy : Copying) → IsIt copy → Knows (blocks_of moves) s.draws copy stage) → (wanted : ℕ) → StepLaid [] (Need (flow_of q block stage) wanted)
+    needs stage holds knows wanted fits = (
+      needs_laid cited moves s q a at rests block laid stage holds,
+      tells_none (past (moves ++ []) s.world s.draws),
+      follows [] (Some (flow_of q block stage)) [] tt (λ copy it. (
+        (λ f e. (let same : flow_of q block stage ≡ f = cc in subst (λ (g : Flow). Knows (blocks_of moves) s.draws copy g.stage) same (knows copy it))),
+        it.1.taken,
+      )),
+    )
+
+    -- of a stream whose phase ended, each block that came is stored
+    all_stored : (name : Name) (v : Version) (received : List ℕ) → ((i : ℕ) → has_piece block received (suc i) ≡ true → HasPiece here v.id block received i) → (rows : List AnyRow) → ((r : AnyRow) → Contains rows r → Contains s.world.kept r) →
+        ((i : ℕ) → has_piece block received i ≡ true → has_piece block received (suc i) ≡ false → (rows ≡ version_row v.id block received i ∷ reference_row v.id block received i ∷ []) × Contains here.blocks (piece block received i)) → AreStored here block v received
+    all_stored name v received before rows are is i has =
+        elim (has_piece block received (suc i)) as (λ b. has_piece block received (suc i) ≡ b → HasPiece here v.id block received i) [
+          | true ↦ λ more. before i more
+          | false ↦ λ last.
+              let one : AnyRow = version_row v.id block received i in
+              let other : AnyRow = reference_row v.id block received i in
+              let stored = is i has last in
+              record {
+                names = are one (subst (λ (rs : List AnyRow). Contains rs one) (sym stored.0) (0, omega arith, refl));
+                refers = are other (subst (λ (rs : List AnyRow). Contains rs other) (sym stored.0) (there one (other ∷ []) other (0, omega arith, refl)));
+                bytes = stored.1;
+              }
+        ] refl
 
     waits : (stage : Stage) → a.flow ≡ Some (flow_of q block stage) → StepLaid [] (Wait (flow_of q block stage))
     waits stage flow_is fits = (
@@ -195,7 +254,8 @@ module _ {H : List ℕ → Type 0} where
     takes_source apart copy name headers v meta body h source =
         let f : FoundIn s.draws copy.source v = source.0 in
         let w : IsWritten s.draws v h.content = h.was_written in
-        let same : f.draw ≡ w.draw = apart f.draw w.draw f.drawn w.drawn (ap (λ (x : Version). x.id) (f.version ∙ sym w.version_is)) in
+        let one : IsOneWrite f.draw w.draw = apart f.draw w.draw f.drawn w.drawn (ap (λ (x : Version). x.id) (f.version ∙ sym w.version_is)) in
+        let same : f.draw ≡ w.draw = one_known f.draw w.draw one (subst IsKnown (sym f.wish_is) tt) (subst IsKnown (sym w.wish_is) tt) in
         record {
           draw = f.draw;
           drawn = f.drawn;
@@ -211,8 +271,8 @@ module _ {H : List ℕ → Type 0} where
         }
 
     found_laid : AreApart s.draws → (aim : Aim) (v : Version) (meta : Meta) (body : List ℕ) → IsAimOf a aim → FoundSource v aim → IsBodyOf (blocks_of moves) s.draws v meta body → StepLaid [] (found q block aim v meta body)
-    found_laid apart aim.Get v meta body is source h = ends (Found v meta body) (λ p id e. cc) (λ clash. get_whole s.draws a.kind v meta body is (says_all (blocks_of moves) s.draws v meta body h clash) q)
-    found_laid apart aim.Head v meta body is source h = ends (Found v meta []) (λ p id e. cc) (λ clash. head_whole s.draws a.kind v meta [] is q)
+    found_laid apart aim.Get v meta body is source h = ends_otherwise (Found v meta body) tt (tells_one here (found_line q a.kind v meta body) (λ clash. get_whole s.draws a.kind v meta body is (says_all (blocks_of moves) s.draws v meta body h clash) q))
+    found_laid apart aim.Head v meta body is source h = ends_otherwise (Found v meta []) tt (tells_one here (found_line q a.kind v meta []) (λ clash. head_whole s.draws a.kind v meta [] is q))
     found_laid apart (aim.Copy name headers) v meta body is source h =
         let stage : Stage = Drawing name (wish.Content (record { body = body; headers = unwrap_or headers meta.headers })) in
         goes stage (asks_for name) (asks_laid cited moves s q a at rests block laid stage name tt (λ question. tt)) (λ copy it. takes_source apart copy name headers v meta body h (source copy it))
@@ -244,23 +304,26 @@ module _ {H : List ℕ → Type 0} where
     IsOwn v = (passed : IsPassed here v.id) → a.kind ≡ kind.Get → (digest_of passed.draw.name.bucket ≡ digest_of a.name.bucket) × (passed.draw.name.key ≡ a.name.key)
 
     -- a request whose version's row was deleted
-    superseded : (v : Version) → IsOwn v → IsPassed here v.id → StepLaid [] (End (Superseded v.id))
-    superseded v own passed =
-        let mine : IsReplaced here s.asked q v.id = record { passed = passed; kind = a.kind; name = a.name; was_asked = record { one = a; is_there = at; kind_is = refl; name_is = refl }; own = own passed } in
+    superseded : (aim : Aim) (v : Version) → FoundSource v aim → IsOwn v → IsPassed here v.id → StepLaid [] (End (Superseded v.id))
+    superseded aim v source own passed =
+        let mine : EndsRightly moves s q v.id = record {
+          replaced = record { passed = passed; kind = a.kind; name = a.name; was_asked = record { one = a; is_there = at; kind_is = refl; name_is = refl }; own = own passed };
+          source = λ copy is h. record { version = v; found = (source copy (is, h)).0; id_is = refl };
+        } in
         ends (Superseded v.id) (λ p id e. (
         let request : q ≡ p = cc in
         let same : v.id ≡ id = cc in
-        subst (λ (r : ℕ). IsReplaced here s.asked r id) request (subst (IsReplaced here s.asked q) same mine))) (λ clash. tt)
+        subst (λ (r : ℕ). EndsRightly moves s r id) request (subst (EndsRightly moves s q) same mine))) (tells_one here (HasEnded q EndedSo) (λ clash. tt))
 
     opened_laid : AreApart s.draws → (aim : Aim) (v : Version) (meta : Meta) (value : Option AnyRow) → IsAimOf a aim → FoundSource v aim → IsOwn v → (f : IsFound here v meta) →
         (named_by value meta.size ≡ whole (named_pieces f.draw.block f.content.body 0 (suc f.last))) ⊎ ((named_by value meta.size ≡ deleted) × IsPassed here v.id) → StepLaid [] (opened q block aim v meta (named_by value meta.size))
     opened_laid apart aim v meta value is source own f (inl e) =
         subst (λ (n : Named). StepLaid [] (opened q block aim v meta n)) (sym e) (gathers_laid apart aim v meta (named_pieces f.draw.block f.content.body 0 (suc f.last)) [] is source f 0 (suc f.last) refl (omega arith) (λ clash. refl))
-    opened_laid apart aim v meta value is source own f (inr e) = subst (λ (n : Named). StepLaid [] (opened q block aim v meta n)) (sym e.0) (superseded v own e.1)
+    opened_laid apart aim v meta value is source own f (inr e) = subst (λ (n : Named). StepLaid [] (opened q block aim v meta n)) (sym e.0) (superseded aim v source own e.1)
 
     reads_on_laid : (aim : Aim) (v : Version) (meta : Meta) → IsAimOf a aim → FoundSource v aim → IsFound here v meta → StepLaid [] (reads_on q block aim v meta)
     reads_on_laid aim.Get v meta is source f = goes (Opening v meta aim.Get) (opens v) (opens_laid cited moves s q a at rests block laid v meta aim.Get f) source
-    reads_on_laid aim.Head v meta is source f = ends (Found v meta []) (λ p id e. cc) (λ clash. head_whole s.draws a.kind v meta [] is q)
+    reads_on_laid aim.Head v meta is source f = ends_otherwise (Found v meta []) tt (tells_one here (found_line q a.kind v meta []) (λ clash. head_whole s.draws a.kind v meta [] is q))
     reads_on_laid (aim.Copy name headers) v meta is source f = goes (Opening v meta (aim.Copy name headers)) (opens v) (opens_laid cited moves s q a at rests block laid v meta (aim.Copy name headers) f) source
 
     -- what is said of an object is of the source, where the request is a copy
@@ -270,14 +333,14 @@ module _ {H : List ℕ → Type 0} where
     SaysSource said aim = ⊤
 
     looked_laid : AreApart s.draws → (aim : Aim) (said : Said) → IsAimOf a aim → SaysSource said aim → SaysWritten s.draws said → ((v : Version) (meta : Meta) (first : List ℕ) → said ≡ in_blocks v meta first → IsFound here v meta) → StepLaid [] (looked q block aim said)
-    looked_laid apart aim none is source written finds = ends Nothing (λ p id e. cc) (λ clash. nothing_whole s.draws a.kind q)
-    looked_laid apart aim (marked v) is source written finds = ends Nothing (λ p id e. cc) (λ clash. nothing_whole s.draws a.kind q)
+    looked_laid apart aim none is source written finds = ends_otherwise Nothing tt (tells_one here (Done q (word_of a.kind) None None None) (λ clash. nothing_whole s.draws a.kind q))
+    looked_laid apart aim (marked v) is source written finds = ends_otherwise Nothing tt (tells_one here (Done q (word_of a.kind) None None None) (λ clash. nothing_whole s.draws a.kind q))
     looked_laid apart aim (inline v meta body) is source written finds =
         found_laid apart aim v meta body is source (record { content = written.content; was_written = written.was_written; meta_is = written.meta_is; body_is = λ differ. written.body_is })
     looked_laid apart aim (in_blocks v meta first) is source written finds = reads_on_laid aim v meta is source (finds v meta first refl)
 
     lists_laid : (bucket prefix : List ℕ) (rows : List ObjectRow) (reach : Option (List ℕ)) → StepLaid [] (lists q block bucket prefix rows reach)
-    lists_laid bucket prefix rows None = ends (Listed rows) (λ p id e. cc) (λ clash. tt)
+    lists_laid bucket prefix rows None = ends_otherwise (Listed rows) tt (tells_one here (Shows q (lines_of (entries rows))) (λ clash. tt))
     lists_laid bucket prefix rows (Some after) = goes (Listing bucket prefix rows) (asks_past bucket prefix after) (scans_laid cited moves s q a at rests block laid (Listing bucket prefix rows) bucket prefix after tt tt) (λ copy it. tt)
 
     -- ---- writes
@@ -302,14 +365,17 @@ module _ {H : List ℕ → Type 0} where
     writes_laid : (name : Name) (v : Version) (w : Wish) (moment : ℕ) → WishesSource w → StepLaid (draw_so name w v moment ∷ []) (writes q block name v w)
     writes_laid name v wish.Marker moment source =
         draws_on (draw_so name wish.Marker v moment ∷ []) (Completing v None) (stores (complete name v block wish.Marker))
-        (completes_laid cited moves s q a at rests block laid (draw_so name wish.Marker v moment ∷ []) (draw_so name wish.Marker v moment) None (0, omega arith, refl) refl (λ c l. (let no : wish.Marker ≡ wish.Content c = l.wish_is in cc)))
+        (completes_laid cited moves s q a at rests block laid (draw_so name wish.Marker v moment ∷ []) (draw_so name wish.Marker v moment) None (0, omega arith, refl) tt refl (λ c l. (let no : wish.Marker ≡ wish.Content c = l.wish_is in cc)))
         (refl, tt) (taken_so name wish.Marker v moment source)
+    writes_laid name v (wish.Stream coming) moment source =
+        draws_on (draw_so name (wish.Stream coming) v moment ∷ []) (Receiving name v coming []) (stores (uploading name v)) (announcing_laid cited moves s q a at rests block laid name v coming moment)
+        (refl, tt) (taken_so name (wish.Stream coming) v moment source)
     writes_laid name v (wish.Content c) moment source =
         elim (is_long c.body) as (λ b. is_long c.body ≡ b → StepLaid (draw_so name (wish.Content c) v moment ∷ []) (elim b as (λ b. FlowStep) [ true ↦ more q block (Uploading name v c 0) (stores (uploading name v)) | false ↦ completes q block name v (wish.Content c) ])) [
           | true ↦ λ long. draws_on (draw_so name (wish.Content c) v moment ∷ []) (Uploading name v c 0) (stores (uploading name v)) (uploading_laid cited moves s q a at rests block laid name v c moment long)
               (refl, tt) (taken_so name (wish.Content c) v moment source)
           | false ↦ λ short. draws_on (draw_so name (wish.Content c) v moment ∷ []) (Completing v (Some (meta_of c))) (stores (complete name v block (wish.Content c)))
-              (completes_laid cited moves s q a at rests block laid (draw_so name (wish.Content c) v moment ∷ []) (draw_so name (wish.Content c) v moment) (Some (meta_of c)) (0, omega arith, refl) refl
+              (completes_laid cited moves s q a at rests block laid (draw_so name (wish.Content c) v moment ∷ []) (draw_so name (wish.Content c) v moment) (Some (meta_of c)) (0, omega arith, refl) tt refl
               (short_has (draw_so name (wish.Content c) v moment ∷ s.draws) name v c moment short))
               (refl, tt) (taken_so name (wish.Content c) v moment source)
         ] refl
@@ -353,7 +419,7 @@ module _ {H : List ℕ → Type 0} where
           | true ↦ λ has fits. goes (Uploading name v c (suc k)) (Store (block_rows v.id block c.body k))
               (block_laid cited moves s q a at rests block laid name v c k (small fits.0.0) has (record { moment = h.moment; drawn = h.drawn; long = h.long; before = λ i lt. kept i (omega (arith, lt)) })) (λ copy it. tt) fits
           | false ↦ λ no_more. goes (Completing v (Some (meta_of c))) (stores (complete name v block (wish.Content c)))
-              (completes_laid cited moves s q a at rests block laid [] (draw_so name (wish.Content c) v h.moment) (Some (meta_of c)) h.drawn refl (λ x l. (
+              (completes_laid cited moves s q a at rests block laid [] (draw_so name (wish.Content c) v h.moment) (Some (meta_of c)) h.drawn tt refl (λ x l. (
               let wish_is : wish.Content c ≡ wish.Content x = l.wish_is in
               let same : c ≡ x = cc in
               subst (λ (y : Content). HasAll here v.id block y.body) same (record { each = λ i has. kept i (below c.body i k has no_more); count = k; ends = no_more })))) (λ copy it. tt)
@@ -371,7 +437,7 @@ read_of H s q (Answered value) h = h
 read_of H s q _ h = tt
 
 module _ {H : List ℕ → Type 0} where
-  module _ (cited : Cited H) (moves : List Moving) (s : State) (q : ℕ) (a : Asked) (at : numbered s.asked q ≡ Some a) (rests : Rests s q) (block : ℕ) (sound : IsSound H s) (apart : AreApart s.draws) (laid : IsLaidIn H moves s) where
+  module _ (cited : Cited H) (moves : List Moving) (s : State) (q : ℕ) (a : Asked) (at : numbered s.asked q ≡ Some a) (rests : Rests s q) (block : ℕ) (sound : IsSound H s) (apart : AreApart s.draws) (fated : IsFatedIn moves s) (laid : IsLaidIn H moves s) where
     -- what a request does that waits so when its phase ends so
     abbrev pub StageLaid : ℕ → Stage → PhaseEnd AnyRow → Type 0
     StageLaid now stage end =
@@ -381,8 +447,8 @@ module _ {H : List ℕ → Type 0} where
     own_version : (v : Version) (aim : Aim) → IsAimOf a aim → HasSeen H s.draws s.history q a aim v → IsOwn cited moves s q a at rests block laid v
     own_version v aim.Get is seen passed k =
         let f : FoundIn s.draws a.name v = seen.found in
-        let same : f.draw ≡ passed.draw = apart f.draw passed.draw f.drawn passed.drawn (ap (λ (x : Version). x.id) f.version ∙ sym passed.id_is) in
-        (ap (λ (d : Draw). digest_of d.name.bucket) (sym same) ∙ f.bucket, ap (λ (d : Draw). d.name.key) (sym same) ∙ f.key)
+        let same : f.draw.name ≡ passed.draw.name = one_name f.draw passed.draw (apart f.draw passed.draw f.drawn passed.drawn (ap (λ (x : Version). x.id) f.version ∙ sym passed.id_is)) in
+        (ap (λ (n : Name). digest_of n.bucket) (sym same) ∙ f.bucket, ap (λ (n : Name). n.key) (sym same) ∙ f.key)
     own_version v aim.Head is seen passed k = (let no : kind.Get ≡ kind.Head = sym k ∙ is in cc)
     own_version v (aim.Copy name headers) is seen passed k = (let no : kind.Get ≡ kind.Copy = sym k ∙ is.0 in cc)
 
@@ -410,12 +476,19 @@ module _ {H : List ℕ → Type 0} where
         let d : Draw = record { request = q; name = name; version = v; wish = wish.Content c; block = stage.1.block; moment = stage.1.moment } in
         let id_is : v.id ≡ q = (sound.drawn d stage.1.drawn).id_is in
         uploads_laid cited moves s q a at rests block laid name v c k (λ room. subst (λ (i : ℕ). i < 2 ^ 64) (sym id_is) (number_fits s q a (effect s (phases q (Store (block_rows v.id block c.body k)))) at sound room)) flow_is got
-    stage_laid now (Completing v meta) Kept flow_is stage end got = ends cited moves s q a at rests block laid (Stored v meta) (λ p id e. cc) (λ clash. stored_whole s.draws a.kind v meta stage q)
+    stage_laid now (Completing v meta) Kept flow_is stage end got = ends_otherwise cited moves s q a at rests block laid (Stored v meta) tt
+        (tells_one (past moves s.world s.draws) (Done q (word_of a.kind) (Some (pair v)) None None) (λ clash. stored_whole s.draws a.kind v meta stage q))
+    stage_laid now (Receiving name v coming received) Kept flow_is stage end got =
+        needs cited moves s q a at rests block laid (Needing name v coming received)
+        (let h : HasReceived (past moves s.world s.draws) q block name v coming received = laid.stages q a (flow_of q block (Receiving name v coming received)) at flow_is in
+        (h, all_stored cited moves s q a at rests block laid name v received h.before got.rows got.are_there (got.stores a (flow_of q block (Receiving name v coming received)) at flow_is)))
+        (λ copy it. tt) (wanted q block coming received)
+    stage_laid now (Aborting v) Kept flow_is stage end got = ends_otherwise cited moves s q a at rests block laid Aborted tt (tells_none (past moves s.world s.draws))
     stage_laid now (Looking name aim) (Answered value) flow_is stage end got =
         looked_laid cited moves s q a at rests block laid apart aim (said_of value) stage.0 (read_source name aim value flow_is end (said_of value) refl) (read_written cited.every s q sound value end) (λ v meta first e. finds cited moves s sound laid got.question value got.is_there v meta first e)
     stage_laid now (Opening v meta aim) (Answered value) flow_is stage end got =
         let asks : AsksNames (past moves s.world s.draws) v meta got.question = got.asks a (flow_of q block (Opening v meta aim)) at flow_is in
-        opened_laid cited moves s q a at rests block laid apart aim v meta value stage.0 (know cited moves s q a at rests block laid (Opening v meta aim) flow_is) (own_version v aim stage.0 stage.1) asks.found (named cited moves s sound apart laid v meta asks.found got.question asks.table asks.key asks.kept value got.is_there)
+        opened_laid cited moves s q a at rests block laid apart aim v meta value stage.0 (know cited moves s q a at rests block laid (Opening v meta aim) flow_is) (own_version v aim stage.0 stage.1) asks.found (named cited moves s sound apart fated laid v meta asks.found got.question asks.table asks.key asks.kept value got.is_there)
     stage_laid now (Gathering v meta aim left body) (Block bytes) flow_is stage end got =
         let p : Past = past moves s.world s.draws in
         let gets : Fetches p v meta left body got.hash = got.gets a (flow_of q block (Gathering v meta aim left body)) at flow_is in
@@ -431,6 +504,9 @@ module _ {H : List ℕ → Type 0} where
     stage_laid now (Listing bucket prefix rows) (Window others reach) flow_is stage end got = lists_laid cited moves s q a at rests block laid bucket prefix (rows ++ shown_rows others) reach
     stage_laid now (Drawing name w) end flow_is stage e got = waits cited moves s q a at rests block laid (Drawing name w) flow_is
     stage_laid now (Uploading name v c k) end flow_is stage e got = waits cited moves s q a at rests block laid (Uploading name v c k) flow_is
+    stage_laid now (Receiving name v coming received) end flow_is stage e got = waits cited moves s q a at rests block laid (Receiving name v coming received) flow_is
+    stage_laid now (Needing name v coming received) end flow_is stage e got = waits cited moves s q a at rests block laid (Needing name v coming received) flow_is
+    stage_laid now (Aborting v) end flow_is stage e got = waits cited moves s q a at rests block laid (Aborting v) flow_is
     stage_laid now (Completing v meta) end flow_is stage e got = waits cited moves s q a at rests block laid (Completing v meta) flow_is
     stage_laid now (Looking name aim) end flow_is stage e got = waits cited moves s q a at rests block laid (Looking name aim) flow_is
     stage_laid now (Opening v meta aim) end flow_is stage e got = waits cited moves s q a at rests block laid (Opening v meta aim) flow_is

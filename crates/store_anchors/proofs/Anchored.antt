@@ -31,7 +31,7 @@ use Rattle.anchor_laws.specs.Anchored.{Anchors}
 use Rattle.object_origins.specs.Gone.{WasStored, IsOverwritten as Newer, AreDrawn, deletes_nothing}
 use Rattle.flow_model.specs.declared.flow.Content.{Content}
 use Rattle.flow_model.specs.Blocks.{piece, piece_hash}
-use Rattle.flow_model.specs.Rows.{complete}
+use Rattle.flow_model.specs.Rows.{aborted, complete}
 use Rattle.store_model.specs.Run.{World, Moving, State, start, Draw}
 use Rattle.store_model.specs.Acts.{Act, after_acts, AreLawfulActs}
 use Rattle.store_laws.specs.Promised.{moves_in, IsOverwritten, IsUndeleted, WasKept, IsAnchoredAt, IsAnchored}
@@ -42,11 +42,12 @@ use Rattle.store_anchors.specs.Stored.{blocks_of, BlocksDiffer}
 use Rattle.store_anchors.proofs.Kept.{Past, HasPiece, HasAll, IsLong, IsRowOf, row_deletes_nothing}
 use Rattle.store_anchors.proofs.Laid.{past, IsStepOf, still_of}
 use Rattle.store_anchors.proofs.Machine.{IsEndOf, reached_end}
-use Rattle.store_anchors.proofs.Acts.{IsHeld, held}
+use Rattle.store_laws.proofs.Rows.{IsKnown}
+use Rattle.store_anchors.proofs.Acts.{IsHeld, draws_apart, held}
 use Rattle.store_anchors.proofs.Among.{digest_among, digest_there, steps_among}
 use Rattle.store_anchors.proofs.Cited.{Cited}
 use Rattle.store_anchors.proofs.Reading.{each_stored}
-use Rattle.store_anchors.proofs.Told.{above_of, complete_drawn, drawn_as, AreApart, drawn_there, are_drawn, none_aborted}
+use Rattle.store_anchors.proofs.Told.{above_of, complete_drawn, drawn_as, AreApart, one_known, drawn_there, are_drawn, none_aborted}
 use Rattle.store_laws.proofs.Hashing.{ActsIn}
 use Rattle.cluster_machine.specs.Hashes.{NoClash, RunHashes}
 
@@ -87,14 +88,14 @@ module _ {H : List ℕ → Type 0} where
     now = held cited acts lawful fit
 
     apart : AreApart s.draws
-    apart d e c k same = now.once.one d e c k (sym (now.sound.drawn d c).id_is ∙ (same ∙ (now.sound.drawn e k).id_is))
+    apart = draws_apart s now.sound now.once
 
     -- ---- acknowledged means that all is kept
     acknowledged_has : (d : Draw) → Contains s.draws d → WasKept s d → (c : Content) → IsLong s.draws d c → HasAll p d.version.id d.block c.body
     acknowledged_has d c kept content long =
         let k = now.sound.acknowledged d.name d.version (record { request = d.request; node = kept.node; kind = kept.kind; writes = source_writes kept.kind kept.is_source; has_begun = kept.has_begun; has_finished = kept.has_finished }) in
         let one = complete_drawn p d.name d.version k.block k.wish (now.laid.kept (complete d.name d.version k.block k.wish) k.is_there) in
-        let same : one.0.draw ≡ d = apart one.0.draw d one.0.drawn c (ap (λ (v : Version). v.id) one.1) in
+        let same : one.0.draw ≡ d = one_known one.0.draw d (apart one.0.draw d one.0.drawn c (ap (λ (v : Version). v.id) one.1)) one.0.known (subst IsKnown (sym long.wish_is) tt) in
         subst (λ (x : Draw). (y : Content) → IsLong s.draws x y → HasAll p x.version.id x.block y.body) same one.0.all content long
 
     -- what was stored
@@ -119,8 +120,8 @@ module _ {H : List ℕ → Type 0} where
       abbrev named : List ℕ → List ℕ
       named = digest_among (blocks_of ms)
 
-      anchored_at : (d : Draw) (c : Content) (i : ℕ) → Contains s.draws d → HasPiece p d.version.id d.block c.body i → IsUndeleted acts d.name d.version → IsAnchoredAt s.world d.version.id d.block c.body i
-      anchored_at d c i drawn has fresh =
+      anchored_at : (d : Draw) (c : Content) (i : ℕ) → Contains s.draws d → IsKnown d.wish → HasPiece p d.version.id d.block c.body i → IsUndeleted acts d.name d.version → IsAnchoredAt s.world d.version.id d.block c.body i
+      anchored_at d c i drawn known has fresh =
           let r : RefRow = record { hash = piece_hash d.block c.body i; id = d.version.id; deleted = record { 0 = false } } in
           let v : World = run any_join words reached.begin reached.moves in
           let ends : IsEndOf (IsStepOf ms) v = reached_end cited.every cited.clear s.world reached (still_of ms step.Trio tt refl refl) in
@@ -132,7 +133,7 @@ module _ {H : List ℕ → Type 0} where
           (All-weaker (λ (m : Moving). IsStepOf ms m.step) (λ (m : Moving). All (λ r. deletes_nothing r ≡ true) (stored_by m.step))
           (λ m is. All-weaker (Contains (stored_in ms)) (λ r. deletes_nothing r ≡ true) (λ r c. row_deletes_nothing p r (every_stored r c)) (stored_by m.step) is.stores) ends.moves ends.are)
           (are_drawn p stored each apart) r refl (subst (λ (w : World). Contains w.kept (rows.Ref r)) (sym ends.leads) (subst (λ (w : World). Contains w.kept (rows.Ref r)) reached.alike.is has.refers))
-          (digest_of d.name.bucket, d.name.key) d.version (drawn_there s.draws apart d drawn) (λ newer. fresh (overwritten ends d newer)) (none_aborted p stored each (digest_of d.name.bucket, d.name.key) d.version)) in
+          (digest_of d.name.bucket, d.name.key) d.version (drawn_there s.draws apart d drawn) (λ newer. fresh (overwritten ends d newer)) (λ gone. none_aborted p stored each (λ x y k there. now.fated.never_both x y k (come_from ends (aborted x.name x.version) there)) d drawn known gone)) in
           let at_v : Anchors named v r two.one = two.one_is in
           let one : Anchors named s.world r two.one = subst (λ (w : World). Anchors named w r two.one) (sym reached.alike.is) (record { reference = at_v.reference; block = at_v.block }) in
           let block = block_there named (s.world.nodes two.one).blocks (piece_hash d.block c.body i).0 one.block in
@@ -141,4 +142,4 @@ module _ {H : List ℕ → Type 0} where
           record { node = two.one; has_block = subst (λ (b : List ℕ). Contains (s.world.nodes two.one).blocks (record { hash = (piece_hash d.block c.body i).0; bytes = b })) bytes_are block.1; is_live = one.reference }
 
       pub anchored : IsAnchored acts
-      anchored d c i drawn wish_is long has kept fresh = anchored_at d c i drawn ((acknowledged_has d drawn kept c (record { drawn = drawn; wish_is = wish_is; long = long })).each i has) fresh
+      anchored d c i drawn wish_is long has kept fresh = anchored_at d c i drawn (subst IsKnown (sym wish_is) tt) ((acknowledged_has d drawn kept c (record { drawn = drawn; wish_is = wish_is; long = long })).each i has) fresh

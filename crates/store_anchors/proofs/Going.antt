@@ -1,5 +1,5 @@
 -- What a request does that goes on: each of its phases, and what it stores.
-use Rattle.std.specs.Prelude.{◌≡◌, ◌<◌, ◌^◌, ℕ, suc, true, Option, Some, None, List, [], ◌∷◌, ◌++◌, map, refl}
+use Rattle.std.specs.Prelude.{◌≡◌, ◌<◌, ◌≤◌, ◌^◌, ◌*◌, ◌+◌, ◌-◌, min, ℕ, suc, true, false, Option, Some, None, List, [], ◌∷◌, ◌++◌, length, map, refl}
 use Rattle.std.proofs.Common.{ap, sym, subst, ◌∙◌, inl, inr, arith}
 use Rattle.std.specs.List.{All, Contains}
 use Rattle.std.proofs.lemmas.List.{append-nil}
@@ -21,17 +21,18 @@ use Rattle.cluster_machine.specs.declared.step.Step.TheVariants as step
 use Rattle.machine_origins.specs.Following.{Began}
 use Rattle.machine_origins.specs.Origins.{stored_by}
 use Rattle.flow_model.specs.declared.flow.Name.{Name}
+use Rattle.flow_model.specs.declared.flow.Coming.{Coming}
 use Rattle.flow_model.specs.declared.flow.Content.{Content}
 use Rattle.flow_model.specs.declared.flow.Wish.{Wish}
 use Rattle.flow_model.specs.declared.flow.Wish.TheVariants as wish
 use Rattle.flow_model.specs.declared.flow.Stage.{Stage}
-use Rattle.flow_model.specs.declared.flow.Stage.TheVariants.{Uploading, Completing, Opening, Gathering}
+use Rattle.flow_model.specs.declared.flow.Stage.TheVariants.{Uploading, Receiving, Aborting, Completing, Opening, Gathering}
 use Rattle.flow_model.specs.declared.flow.Flow.{Flow}
 use Rattle.flow_model.specs.declared.flow.FlowEnd.{FlowEnd}
 use Rattle.flow_model.specs.Blocks.{piece, has_piece, is_long}
 use Rattle.flow_model.specs.Flow.{asks_for, asks_past}
 use Rattle.flow_model.specs.Next.{stores, opens}
-use Rattle.flow_model.specs.Rows.{uploading, complete, version_row, reference_row, block_rows}
+use Rattle.flow_model.specs.Rows.{uploading, aborted, complete, version_row, reference_row, version_row_at, reference_to, rows_at, block_rows}
 use Rattle.store_model.specs.Run.{doing, Moving, State, Asked, Draw, phases, plainly, goes, finishes, set_flow}
 use Rattle.store_laws.proofs.Elements.{only, cons_cases}
 use Rattle.store_laws.proofs.Flows.{waiting}
@@ -39,8 +40,8 @@ use Rattle.store_laws.proofs.Going.{flow_of}
 use Rattle.store_laws.proofs.Grown.{Rests, asked_set}
 use Rattle.store_laws.proofs.Hashes.{HasHash}
 use Rattle.machine_origins.proofs.Places.{numbered_set_here}
-use Rattle.store_laws.proofs.Placing.{asks_is_step, asks_is_meant, opens_is_step, opens_is_meant, scan_is_step, scan_is_meant, fetch_is_step, fetch_is_meant, stores_is_step, stores_is_meant, one_is_step, uploading_is_placed, block_is_step, block_is_meant}
-use Rattle.store_laws.proofs.Rows.{complete_row}
+use Rattle.store_laws.proofs.Placing.{asks_is_step, asks_is_meant, opens_is_step, opens_is_meant, scan_is_step, scan_is_meant, fetch_is_step, fetch_is_meant, stores_is_step, stores_is_meant, one_is_step, uploading_is_placed, aborted_is_placed, block_is_step, block_is_meant, rows_at_is_step, rows_at_is_meant}
+use Rattle.store_laws.proofs.Rows.{IsKnown, complete_row}
 use Rattle.history_model.specs.declared.record.Cause.TheVariants.{Superseded}
 use Rattle.history_model.specs.declared.record.Record.TheVariants.{Ended}
 use Rattle.store_model.specs.Answers.{record_of}
@@ -49,8 +50,9 @@ use Rattle.row_codec.specs.Spelling.{eight}
 use Rattle.blake2_hash.specs.Hash.{digest_of}
 use Rattle.flow_model.specs.declared.flow.Aim.{Aim}
 use Rattle.store_anchors.proofs.Cited.{Cited}
-use Rattle.store_anchors.proofs.Kept.{IsFound, Fetches, IsReplaced, replaced_later, replaced_asked, all_of_later, found_later, fetches_later, Past, Grows, HasAll, IsLong, IsRowOf, row_later}
-use Rattle.store_anchors.proofs.Laid.{Asks, Gets, laid_told, digest, HasUploaded, Holds, Stores, Awaits, AreRows, past, past_after, after_grows, drawn_grows, blocks_new, IsLaid, IsLaidIn, laid_waiting, Scans}
+use Rattle.store_anchors.proofs.Coming.{many, each_came, before_last, last_new, piece_old, piece_new, ends as end_of_pieces, none_there}
+use Rattle.store_anchors.proofs.Kept.{IsFound, Fetches, IsReplaced, replaced_later, replaced_asked, all_of_later, found_later, fetches_later, Past, Grows, HasPiece, HasAll, IsLong, IsRowOf, row_later}
+use Rattle.store_anchors.proofs.Laid.{Asks, Gets, laid_told, digest, HasUploaded, HasReceived, AreStored, Holds, Stores, Awaits, AreRows, past, past_after, after_grows, drawn_grows, blocks_new, IsLaid, IsLaidIn, laid_waiting, Scans}
 use Rattle.store_anchors.proofs.Steps.{begin_laid, calm_laid}
 use Rattle.store_laws.proofs.Hashing.{FitIn}
 
@@ -65,13 +67,25 @@ stores_bring q r e = All-cons (λ (x : AnyRow × Option (List ℕ)). IsBeside di
 complete_needs_none : (name : Name) (v : Version) (block : ℕ) (w : Wish) → words.live_block (complete name v block w) ≡ None
 complete_needs_none name v block w = let row = complete_row name v block w in subst (λ (r : AnyRow). words.live_block r ≡ None) (sym row.1) refl
 
-block_brings : (q id block : ℕ) (body : List ℕ) (i : ℕ) → StepBringsBlocks digest words (phases q (Store (block_rows id block body i))).step
-block_brings q id block body i =
+rows_bring : (q id offset : ℕ) (bytes : List ℕ) → StepBringsBlocks digest words (phases q (Store (rows_at id offset bytes))).step
+rows_bring q id offset bytes =
     let P : AnyRow × Option (List ℕ) → Type 0 = (λ x. IsBeside digest (words.live_block x.0) x.1) in
-    let one : AnyRow × Option (List ℕ) = (version_row id block body i, None) in
-    let other : AnyRow × Option (List ℕ) = (reference_row id block body i, Some (piece block body i)) in
+    let one : AnyRow × Option (List ℕ) = (version_row_at id offset bytes, None) in
+    let other : AnyRow × Option (List ℕ) = (reference_to id bytes, Some bytes) in
     let other_is : P other = refl in
     All-cons P one (other ∷ []) refl (All-cons P other [] other_is (All-nil P))
+
+-- a block that is where it was is kept as it was
+piece_kept : (p : Past) (id block : ℕ) (old new : List ℕ) (i : ℕ) → piece block old i ≡ piece block new i → HasPiece p id block old i → HasPiece p id block new i
+piece_kept p id block old new i same h = record {
+  names = subst (Contains p.kept) (ap (version_row_at id (i * block)) same) h.names;
+  refers = subst (Contains p.kept) (ap (reference_to id) same) h.refers;
+  bytes = subst (Contains p.blocks) same h.bytes;
+}
+
+-- of no bytes no block is there
+nothing_there : (block i : ℕ) → has_piece block [] i ≡ true → ⊥
+nothing_there block i has = let no : true ≡ false = sym has ∙ none_there block i in cc
 
 -- ---- what a phase is in that has begun
 
@@ -177,14 +191,88 @@ module _ {H : List ℕ → Type 0} where
         (record { moment = moment; drawn = first; long = long; before = λ i lt. absurd (omega (arith, lt)) })
         (store_begins (at_begin ds stage (stores r)) s.world.kept block stage ((r, None) ∷ []) (one_row (at_begin ds stage (stores r)) r (row_later (with_draws ds) (at_begin ds stage (stores r)) (begin_grows ds stage (stores r)) r is)) tt)
 
+    -- and for a stream
+    pub announcing_laid : (name : Name) (v : Version) (coming : Coming) (moment : ℕ) →
+        (let d : Draw = record { request = q; name = name; version = v; wish = wish.Stream coming; block = block; moment = moment } in GoesLaid (d ∷ []) (Receiving name v coming []) (stores (uploading name v)))
+    announcing_laid name v coming moment =
+        let d : Draw = record { request = q; name = name; version = v; wish = wish.Stream coming; block = block; moment = moment } in
+        let ds : List Draw = d ∷ [] in
+        let stage : Stage = Receiving name v coming [] in
+        let r : AnyRow = uploading name v in
+        let first : Contains (ds ++ s.draws) d = (0, omega arith, refl) in
+        let is : IsRowOf (with_draws ds) r = IsRowOf.announces d first refl in
+        goes_laid ds stage (stores r) (stores_is_meant q r) (one_is_step q r (uploading_is_placed name v)) (stores_bring q r refl) (All-cons (IsRowOf (with_draws ds)) r [] is (All-nil _))
+        (record { moment = moment; drawn = first; count = 0; whole = λ lt. omega arith; ends = none_there block 0; before = λ i has. absurd (nothing_there block (suc i) has) })
+        (store_begins (at_begin ds stage (stores r)) s.world.kept block stage ((r, None) ∷ []) (one_row (at_begin ds stage (stores r)) r (row_later (with_draws ds) (at_begin ds stage (stores r)) (begin_grows ds stage (stores r)) r is))
+        (λ i has no_more. absurd (nothing_there block i has)))
+
+    -- a stream stores a block that came, the next one of so many bytes as it needs
+    pub fed_laid : (name : Name) (v : Version) (coming : Coming) (received bytes : List ℕ) → v.id < 2 ^ 64 → HasReceived here q block name v coming received → AreStored here block v received →
+        min block (coming.length - length received) ≡ length bytes → 1 ≤ length bytes → GoesLaid [] (Receiving name v coming (received ++ bytes)) (Store (rows_at v.id (length received) bytes))
+    fed_laid name v coming received bytes small h stored wanted some =
+        let both : List ℕ = received ++ bytes in
+        let stage : Stage = Receiving name v coming both in
+        let phase : Phase AnyRow = Store (rows_at v.id (length received) bytes) in
+        let d : Draw = record { request = q; name = name; version = v; wish = wish.Stream coming; block = block; moment = h.moment } in
+        let one : AnyRow = version_row_at v.id (length received) bytes in
+        let other : AnyRow = reference_to v.id bytes in
+        let one_is : IsRowOf here one = IsRowOf.names d (length received) bytes h.drawn refl in
+        let other_is : IsRowOf here other = IsRowOf.refers d bytes h.drawn refl in
+        let now : Past = at_begin [] stage phase in
+        let grows : Grows here now = begin_grows [] stage phase in
+        let more : length received < coming.length = omega (arith, wanted, some) in
+        let size : length received ≡ h.count * block = h.whole more in
+        let few : length bytes ≤ block = omega (arith, wanted) in
+        let sum : length both ≡ h.count * block + length bytes = many block received bytes h.count size some few in
+        let next : suc h.count * block ≡ h.count * block + block = omega arith in
+        goes_laid [] stage phase (rows_at_is_meant q v.id (length received) bytes) (rows_at_is_step v.id small (length received) bytes q) (rows_bring q v.id (length received) bytes)
+        (All-cons (IsRowOf here) one (other ∷ []) one_is (All-cons (IsRowOf here) other [] other_is (All-nil _)))
+        (record {
+          moment = h.moment;
+          drawn = h.drawn;
+          count = suc h.count;
+          whole = λ lt. omega (arith, sum, next, wanted, lt, size);
+          ends = end_of_pieces block received bytes h.count size some few;
+          before = λ i has.
+              let low : i < h.count = before_last block received bytes h.count size some few i has in
+              let there : has_piece block received i ≡ true = each_came block received bytes h.count size some few i low in
+              piece_kept here v.id block received both i (sym (piece_old block received bytes h.count size some few i low)) (stored i there);
+        })
+        (store_begins now s.world.kept block stage (rows_at v.id (length received) bytes) (two_rows now one other (row_later here now grows one one_is) (row_later here now grows other other_is))
+        (λ i has no_more.
+        let last : i ≡ h.count = last_new block received bytes h.count size some few i has no_more in
+        let new : piece block both h.count ≡ bytes = piece_new block received bytes h.count size some few in
+        let here_is : piece block both i ≡ bytes = ap (piece block both) last ∙ new in
+        let at : length received ≡ i * block = size ∙ ap (λ n. n * block) (sym last) in (
+          (λ j. version_row_at v.id (at j) (sym here_is j) ∷ reference_to v.id (sym here_is j) ∷ []),
+          subst (Contains now.blocks) (sym here_is) (blocks_new moves (phases q phase) bytes (0, omega arith, refl)),
+        )))
+
+    -- or that it was given up
+    pub aborting_laid : (name : Name) (v : Version) (d : Draw) → Contains s.draws d → d.name ≡ name → d.version ≡ v → GoesLaid [] (Aborting v) (stores (aborted name v))
+    aborting_laid name v d drawn name_is version_is =
+        let stage : Stage = Aborting v in
+        let r : AnyRow = aborted name v in
+        let is : IsRowOf here r = IsRowOf.gives_up d drawn (λ i. aborted (sym name_is i) (sym version_is i)) in
+        let now : Past = at_begin [] stage (stores r) in
+        goes_laid [] stage (stores r) (stores_is_meant q r) (one_is_step q r (aborted_is_placed name v)) (stores_bring q r refl) (All-cons (IsRowOf here) r [] is (All-nil _))
+        tt (store_begins now s.world.kept block stage ((r, None) ∷ []) (one_row now r (row_later here now (begin_grows [] stage (stores r)) r is)) tt)
+
+    -- a stream waits for its client
+    pub needs_laid : (stage : Stage) → Holds here q block stage → IsLaidIn H (moves ++ []) (record s { asked = set_flow s q a (Some (flow_of q block stage)) })
+    needs_laid stage holds =
+        let flow : Flow = flow_of q block stage in
+        subst (λ ms. IsLaid H ms s.world (set_flow s q a (Some flow)) s.draws s.history) (sym (append-nil moves))
+        (laid_waiting moves s q a (Some flow) [] at rests (λ f e. (let same : flow ≡ f = cc in subst (λ (g : Flow). Holds here q g.block g.stage) same holds)) laid)
+
     -- a write stores that its version is complete
-    pub completes_laid : (ds : List Draw) (d : Draw) (meta : Option Meta) → Contains (ds ++ s.draws) d → d.block ≡ block → ((c : Content) → IsLong (ds ++ s.draws) d c → HasAll here d.version.id d.block c.body) →
+    pub completes_laid : (ds : List Draw) (d : Draw) (meta : Option Meta) → Contains (ds ++ s.draws) d → IsKnown d.wish → d.block ≡ block → ((c : Content) → IsLong (ds ++ s.draws) d c → HasAll here d.version.id d.block c.body) →
         GoesLaid ds (Completing d.version meta) (stores (complete d.name d.version block d.wish))
-    completes_laid ds d meta drawn block_is all =
+    completes_laid ds d meta drawn known block_is all =
         let stage : Stage = Completing d.version meta in
         let r : AnyRow = complete d.name d.version block d.wish in
         let more : (c : Content) → IsLong (ds ++ s.draws) d c → HasAll (with_draws ds) d.version.id d.block c.body = (λ c l. all_of_later here (with_draws ds) (drawn_grows moves s ds) d.version.id d.block c.body (all c l)) in
-        let is : IsRowOf (with_draws ds) r = IsRowOf.completes d drawn (ap (λ b. complete d.name d.version b d.wish) (sym block_is)) more in
+        let is : IsRowOf (with_draws ds) r = IsRowOf.completes d drawn known (ap (λ b. complete d.name d.version b d.wish) (sym block_is)) more in
         goes_laid ds stage (stores r) (stores_is_meant q r) (stores_is_step q d.name d.version block d.wish) (stores_bring q r (complete_needs_none d.name d.version block d.wish)) (All-cons (IsRowOf (with_draws ds)) r [] is (All-nil _))
         tt (store_begins (at_begin ds stage (stores r)) s.world.kept block stage ((r, None) ∷ []) (one_row (at_begin ds stage (stores r)) r (row_later (with_draws ds) (at_begin ds stage (stores r)) (begin_grows ds stage (stores r)) r is)) tt)
 
@@ -195,14 +283,13 @@ module _ {H : List ℕ → Type 0} where
         let stage : Stage = Uploading name v c (suc i) in
         let phase : Phase AnyRow = Store (block_rows v.id block c.body i) in
         let d : Draw = record { request = q; name = name; version = v; wish = wish.Content c; block = block; moment = h.moment } in
-        let long : IsLong s.draws d c = record { drawn = h.drawn; wish_is = refl; long = h.long } in
         let one : AnyRow = version_row v.id block c.body i in
         let other : AnyRow = reference_row v.id block c.body i in
-        let one_is : IsRowOf here one = IsRowOf.names d c i long has refl in
-        let other_is : IsRowOf here other = IsRowOf.refers d c i long has refl in
+        let one_is : IsRowOf here one = IsRowOf.names d (i * block) (piece block c.body i) h.drawn refl in
+        let other_is : IsRowOf here other = IsRowOf.refers d (piece block c.body i) h.drawn refl in
         let now : Past = at_begin [] stage phase in
         let grows : Grows here now = begin_grows [] stage phase in
-        goes_laid [] stage phase (block_is_meant q v.id block c.body i) (block_is_step v.id small block c.body i q) (block_brings q v.id block c.body i)
+        goes_laid [] stage phase (block_is_meant q v.id block c.body i) (block_is_step v.id small block c.body i q) (rows_bring q v.id (i * block) (piece block c.body i))
         (All-cons (IsRowOf here) one (other ∷ []) one_is (All-cons (IsRowOf here) other [] other_is (All-nil _)))
         h (store_begins now s.world.kept block stage (block_rows v.id block c.body i) (two_rows now one other (row_later here now grows one one_is) (row_later here now grows other other_is))
         (refl, blocks_new moves (phases q phase) (piece block c.body i) (0, omega arith, refl)))

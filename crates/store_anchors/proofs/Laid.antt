@@ -1,5 +1,5 @@
 -- The invariant: what was stored, what is kept of versions' blocks, and what requests wait for.
-use Rattle.std.specs.Prelude.{◌≡◌, ◌<◌, ◌^◌, ℕ, suc, ◌-◌, true, Option, Some, List, [], ◌∷◌, ◌++◌, length, slice_set, ⊤, zero, refl, None, false, cond}
+use Rattle.std.specs.Prelude.{◌≡◌, ◌<◌, ◌^◌, ◌*◌, ℕ, suc, ◌-◌, true, Option, Some, List, [], ◌∷◌, ◌++◌, length, slice_set, ⊤, zero, refl, None, false, cond}
 use Rattle.std.proofs.Common.{ap, sym, subst, ◌∙◌, inl, inr, arith}
 use Rattle.std.specs.List.{All, Contains}
 use Rattle.std.proofs.lemmas.List.{append-nil, append_assoc}
@@ -31,12 +31,13 @@ use Rattle.cluster_machine.specs.Step.{changed}
 use Rattle.machine_origins.specs.Origins.{stored_by, stored_in}
 use Rattle.machine_origins.specs.Following.{GoesOn, Continues}
 use Rattle.flow_model.specs.declared.flow.Name.{Name}
+use Rattle.flow_model.specs.declared.flow.Coming.{Coming}
 use Rattle.flow_model.specs.declared.flow.Content.{Content}
 use Rattle.flow_model.specs.declared.flow.Wish.TheVariants as wish
 use Rattle.flow_model.specs.declared.flow.Stage.{Stage}
-use Rattle.flow_model.specs.declared.flow.Stage.TheVariants.{Uploading, Opening, Gathering, Drawing, Completing, Looking, Listing}
+use Rattle.flow_model.specs.declared.flow.Stage.TheVariants.{Uploading, Receiving, Needing, Aborting, Opening, Gathering, Drawing, Completing, Looking, Listing}
 use Rattle.flow_model.specs.declared.flow.Flow.{Flow}
-use Rattle.flow_model.specs.Blocks.{piece, is_long}
+use Rattle.flow_model.specs.Blocks.{piece, has_piece, is_long}
 use Rattle.flow_model.specs.Rows.{version_row, reference_row}
 use Rattle.store_model.specs.Run.{World, Moving, State, Asked, Draw, effect}
 use Rattle.store_laws.proofs.Elements.{none_in, there}
@@ -59,15 +60,33 @@ pub record HasUploaded (p : Past) (q block : ℕ) (name : Name) (v : Version) (c
   pub long : is_long c.body ≡ true
   pub before : (i : ℕ) → suc i < k → HasPiece p v.id block c.body i
 
+-- a write has drawn this version for a stream, and each block that came but the last was stored, and its rows are kept; all are whole while more is to come
+pub record HasReceived (p : Past) (q block : ℕ) (name : Name) (v : Version) (coming : Coming) (received : List ℕ) : Type 0 where
+  pub moment : ℕ
+  pub drawn : Contains p.draws (record { request = q; name = name; version = v; wish = wish.Stream coming; block = block; moment = moment })
+  pub count : ℕ
+  pub whole : length received < coming.length → length received ≡ count * block
+  pub ends : has_piece block received (length received) ≡ false
+  pub before : (i : ℕ) → has_piece block received (suc i) ≡ true → HasPiece p v.id block received i
+
+-- each block that came was stored, and its rows are kept
+abbrev pub AreStored : Past → ℕ → Version → List ℕ → Type 0
+AreStored p block v received = (i : ℕ) → has_piece block received i ≡ true → HasPiece p v.id block received i
+
 -- what holds of a request that waits so
 abbrev pub Holds : Past → ℕ → ℕ → Stage → Type 0
 Holds p q block (Uploading name v c k) = HasUploaded p q block name v c k
+Holds p q block (Receiving name v coming received) = HasReceived p q block name v coming received
+Holds p q block (Needing name v coming received) = HasReceived p q block name v coming received × AreStored p block v received
 Holds p q block _ = ⊤
 
--- a request that waits so stores these rows: an upload stores those of its last block, and that block; one that reads stores none
+-- a request that waits so stores these rows: an upload stores those of its last block, and that block, and so does a stream; one that reads, or needs its client, stores none
 abbrev pub Stores : Past → ℕ → Stage → List AnyRow → Type 0
 Stores p block (Uploading name v c (suc i)) rows = (rows ≡ version_row v.id block c.body i ∷ reference_row v.id block c.body i ∷ []) × Contains p.blocks (piece block c.body i)
 Stores p block (Uploading name v c zero) rows = ⊤
+Stores p block (Receiving name v coming received) rows = (i : ℕ) → has_piece block received i ≡ true → has_piece block received (suc i) ≡ false →
+    (rows ≡ version_row v.id block received i ∷ reference_row v.id block received i ∷ []) × Contains p.blocks (piece block received i)
+Stores p block (Aborting v) rows = ⊤
 Stores p block (Completing v meta) rows = ⊤
 Stores p block stage rows = ⊥
 
@@ -132,14 +151,22 @@ IsLaidIn H moves s = IsLaid H moves s.world s.asked s.draws s.history
 -- ---- there is more
 
 module _ (old new : Past) (more : Grows old new) where
+  received_later : (q block : ℕ) (name : Name) (v : Version) (coming : Coming) (received : List ℕ) → HasReceived old q block name v coming received → HasReceived new q block name v coming received
+  received_later q block name v coming received h =
+      record { moment = h.moment; drawn = more.draws _ h.drawn; count = h.count; whole = h.whole; ends = h.ends; before = λ i has. piece_later old new more v.id block received i (h.before i has) }
+
   pub holds_later : (q block : ℕ) (stage : Stage) → Holds old q block stage → Holds new q block stage
   holds_later q block (Uploading name v c k) h =
       record { moment = h.moment; drawn = more.draws _ h.drawn; long = h.long; before = λ i lt. piece_later old new more v.id block c.body i (h.before i lt) }
+  holds_later q block (Receiving name v coming received) h = received_later q block name v coming received h
+  holds_later q block (Needing name v coming received) h = (received_later q block name v coming received h.0, λ i has. piece_later old new more v.id block received i (h.1 i has))
   holds_later q block _ h = tt
 
   stores_later : (block : ℕ) (stage : Stage) (rows : List AnyRow) → Stores old block stage rows → Stores new block stage rows
   stores_later block (Uploading name v c (suc i)) rows h = (h.0, more.blocks _ h.1)
   stores_later block (Uploading name v c zero) rows h = tt
+  stores_later block (Receiving name v coming received) rows h = λ i has no_more. (let was = h i has no_more in (was.0, more.blocks _ was.1))
+  stores_later block (Aborting v) rows h = tt
   stores_later block (Completing v meta) rows h = tt
   stores_later block _ rows h = absurd h
 
@@ -227,7 +254,7 @@ stored_more [] m = append-nil (stored_by m.step)
 stored_more (first ∷ moves) m = ap (λ rs. stored_by first.step ++ rs) (stored_more moves m) ∙ sym (append_assoc (stored_by first.step) (stored_in moves) (stored_by m.step))
 
 -- what holds of each row holds of all
-all_each : {A : Type 0} (P : A → Type 0) (xs : List A) → ((x : A) → Contains xs x → P x) → All P xs
+pub all_each : {A : Type 0} (P : A → Type 0) (xs : List A) → ((x : A) → Contains xs x → P x) → All P xs
 all_each P [] h = All-nil P
 all_each P (x ∷ xs) h = All-cons P x xs (h x (0, omega arith, refl)) (all_each P xs (λ y c. h y (there x xs y c)))
 

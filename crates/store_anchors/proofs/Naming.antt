@@ -4,7 +4,7 @@ use Rattle.std.proofs.Common.{ap, sym, subst, ◌∙◌, inl, inr, ◌⊎◌, li
 use Rattle.std.proofs.lemmas.Bool.{ltb-true, ltb-false}
 use Rattle.std.proofs.lemmas.Nat.{mul-le}
 use Rattle.std.specs.List.{Contains}
-use Rattle.std.proofs.lemmas.List.Elements.{All-nil, All-contains, All-map, All-weaker}
+use Rattle.std.proofs.lemmas.List.Elements.{All-nil, All-contains, All-map}
 use Rattle.std.specs.declared.cmp.Ord as ord
 use Rattle.std.specs.declared.cmp.PartialEq as partial_eq
 use Rattle.std.specs.declared.cmp.PartialOrd as partial_ord
@@ -44,7 +44,6 @@ use Rattle.table_model.proofs.RowLaws.{place_total}
 use Rattle.row_codec.specs.Range.{is_eight}
 use Rattle.store_laws.proofs.Rows.{complete_row}
 use Rattle.flow_model.specs.declared.flow.Wish.TheVariants as wish
-use Rattle.flow_model.specs.declared.flow.Content.{Content}
 use Rattle.flow_model.specs.Blocks.{has_piece}
 use Rattle.flow_model.specs.Rows.{version_row}
 use Rattle.flow_model.specs.Says.{Named, whole, deleted, named_by, of_entries}
@@ -55,9 +54,11 @@ use Rattle.store_laws.proofs.Objects.{Below as IsBelow, members_below}
 use Rattle.store_laws.proofs.Sound.{IsSound}
 use Rattle.store_laws.proofs.Reached.{reached_kept}
 use Rattle.store_anchors.proofs.Cited.{Cited}
-use Rattle.store_anchors.proofs.Kept.{Past, IsLong, IsRowOf, announces, completes, names, refers, IsFound, IsPassed}
-use Rattle.store_anchors.proofs.Laid.{past, IsLaidIn}
-use Rattle.store_anchors.proofs.Reading.{piece_there, all_stored, each_stored, gave, shown, small}
+use Rattle.store_laws.proofs.Rows.{IsKnown}
+use Rattle.store_anchors.proofs.Fated.{OfVersion, IsFatedIn}
+use Rattle.store_anchors.proofs.Kept.{Past, IsRowOf, announces, gives_up, completes, names, refers, IsFound, IsPassed}
+use Rattle.store_anchors.proofs.Laid.{past, IsLaidIn, all_each}
+use Rattle.store_anchors.proofs.Reading.{piece_there, each_stored, gave, shown, small}
 use Rattle.store_anchors.proofs.Told.{was_drawn, AreApart, drawn_as, drawn_there, are_drawn, none_aborted, above_of}
 
 -- ---- the rows of blocks are below what they merge to
@@ -98,7 +99,7 @@ deleted_names : (r : VersionRow) (size : ℕ) → is_deleted r ≡ true → name
 deleted_names r size e = by_blocks r.blocks size e
 
 module _ {H : List ℕ → Type 0} where
-  module _ (cited : Cited H) (moves : List Moving) (s : State) (sound : IsSound H s) (apart_draws : AreApart s.draws) (laid : IsLaidIn H moves s) (v : Version) (meta : Meta) (found : IsFound (past moves s.world s.draws) v meta) where
+  module _ (cited : Cited H) (moves : List Moving) (s : State) (sound : IsSound H s) (apart_draws : AreApart s.draws) (fated : IsFatedIn moves s) (laid : IsLaidIn H moves s) (v : Version) (meta : Meta) (found : IsFound (past moves s.world s.draws) v meta) where
     abbrev p : Past
     p = past moves s.world s.draws
 
@@ -129,20 +130,21 @@ module _ {H : List ℕ → Type 0} where
           | false ↦ λ f. ltb-false found.last i f
         ] refl
 
-    one_within : (d : Draw) (c : Content) (i : ℕ) → IsLong s.draws d c → has_piece d.block c.body i ≡ true → d.version.id ≡ id → AtMost any_join (version_row d.version.id d.block c.body i) top
-    one_within d c i l has same =
-        let draw_is : found.draw ≡ d = apart_draws found.draw d found.long.drawn l.drawn (sym same) in
-        let wishes : wish.Content found.content ≡ wish.Content c = sym found.long.wish_is ∙ (ap (λ (x : Draw). x.wish) draw_is ∙ l.wish_is) in
-        let content_is : found.content ≡ c = cc in
-        let here : has_piece found.draw.block found.content.body i ≡ true = (λ j. has_piece (draw_is j).block (content_is j).body i) ∙ has in
-        subst (λ (r : AnyRow). AtMost any_join r top) (λ j. version_row (draw_is j).version.id (draw_is j).block (content_is j).body i) (rows_below id found.draw.block found.content.body i found.last (up_to i here))
+    -- what was stored of the version is one of its blocks
+    one_within : (row : AnyRow) → Contains (stored_in moves) row → OfVersion id row → AtMost any_join row top
+    one_within row c of =
+        let one = fated.pieces found.draw found.content found.long.drawn found.long.wish_is row c of in
+        subst (λ (r : AnyRow). AtMost any_join r top) (sym one.2) (rows_below id found.draw.block found.content.body one.0 found.last (up_to one.0 one.1))
 
-    stored_within : (row : AnyRow) → IsRowOf p row → IsWithin row
-    stored_within row h = elim h [
+    stored_within : (row : AnyRow) → Contains (stored_in moves) row → IsWithin row
+    stored_within row there = elim (each_stored cited moves s sound laid row there) [
       | announces d c is ↦ subst IsWithin (sym is) tt
-      | completes d c is all ↦ (let full = complete_row d.name d.version d.block d.wish in subst IsWithin (sym (is ∙ full.1)) tt)
-      | names d c i l has is ↦ subst IsWithin (sym is) (λ key. inr (one_within d c i l has (eight_same d.version.id id (small cited moves s sound laid d l.drawn) (small cited moves s sound laid found.draw found.long.drawn) key)))
-      | refers d c i l has is ↦ subst IsWithin (sym is) tt
+      | gives_up d c is ↦ subst IsWithin (sym is) tt
+      | completes d c known is all ↦ (let full = complete_row d.name d.version d.block d.wish in subst IsWithin (sym (is ∙ full.1)) tt)
+      | names d offset bytes c is ↦ subst IsWithin (sym is) (λ key.
+          let same : d.version.id ≡ id = eight_same d.version.id id (small cited moves s sound laid d c) (small cited moves s sound laid found.draw found.long.drawn) key in
+          inr (subst (λ (r : AnyRow). AtMost any_join r top) is (one_within row there (subst (OfVersion id) (sym is) same))))
+      | refers d bytes c is ↦ subst IsWithin (sym is) tt
     ]
 
     -- two that are so merge to one that is so
@@ -176,7 +178,7 @@ module _ {H : List ℕ → Type 0} where
     inherited = record { joined = joined_within; called_for = λ old new row h k c. called_within old new row c }
 
     within : (row : AnyRow) → ComesFrom any_join words (stored_in moves) row → IsWithin row
-    within row from = has_by_origin IsWithin inherited (stored_in moves) (All-weaker (IsRowOf p) IsWithin stored_within (stored_in moves) (all_stored cited moves s sound laid)) row from
+    within row from = has_by_origin IsWithin inherited (stored_in moves) (all_each IsWithin (stored_in moves) stored_within) row from
 
     -- ---- what a read of the version's row gave
 
@@ -197,7 +199,7 @@ module _ {H : List ℕ → Type 0} where
         let newer : Newer stored (digest_of d.name.bucket, d.name.key) d.version =
         (elim (cited.overwritten stored (drawn_as s.draws) (are_drawn p stored each apart_draws) id (digest_of d.name.bucket, d.name.key) d.version (drawn_there s.draws apart_draws d found.long.drawn) (subst (IsGone stored) same lost)) [
           | inl newer ↦ newer
-          | inr aborted ↦ absurd (none_aborted p stored each (digest_of d.name.bucket, d.name.key) d.version aborted)
+          | inr aborted ↦ absurd (none_aborted p stored each fated.never_both d found.long.drawn (subst IsKnown (sym found.long.wish_is) tt) aborted)
         ]) in
         let a = above_of p stored each d newer in
         record { draw = d; drawn = found.long.drawn; id_is = ap (λ (x : Version). x.id) found.version_is; above = record { newer = a.0; block = a.1; wished = a.2; above = a.3; was_stored = a.4 } }

@@ -1,5 +1,5 @@
 -- Where no open request of a node rests, one rests after a message only where its phase ended, and none after what a node does by itself.
-use Rattle.std.specs.Prelude.{◌≡◌, ℕ, Bool, true, false, not, cond, ◌==◌, nat_lt, List, [], ◌∷◌, ◌++◌, Option, Some, None, refl}
+use Rattle.std.specs.Prelude.{◌≡◌, ◌⊎◌, ℕ, Bool, true, false, not, cond, ◌==◌, nat_lt, List, [], ◌∷◌, ◌++◌, Option, Some, None, refl}
 use Rattle.std.proofs.Common.{ap, sym, subst, ◌∙◌, inl, inr}
 use Rattle.crdt_core.specs.Members.{Has}
 use Rattle.view_model.specs.View.{newest, merged, cleaned}
@@ -31,18 +31,18 @@ abbrev pub FirstEnded : {R : Type 0} → List (Ended R) → ℕ → Type 0
 FirstEnded [] q = ⊥
 FirstEnded (e ∷ es) q = q ≡ e.request
 
-module _ {R L : Type 0} (x : Node R L) (busy : (c : Call R) → Has x.calls c → c.present ≡ resting → ⊥) where
-  -- a request that rests now is one whose phase ended
+module _ {R L : Type 0} (x : Node R L) (may : ℕ → Type 0) (busy : (c : Call R) → Has x.calls c → c.present ≡ resting → may c.request) where
+  -- a request that rests now is one whose phase ended, or rested before
   pub record Stays (d : Did R L) : Type 0 where
-    pub rests : (c : Call R) → Has d.node.calls c → c.present ≡ resting → FirstEnded d.ends c.request
+    pub rests : (c : Call R) → Has d.node.calls c → c.present ≡ resting → FirstEnded d.ends c.request ⊎ may c.request
 
   stays_same : (d : Did R L) → d.node.calls ≡ x.calls → Stays d
-  stays_same d calls = record { rests = λ c h rests. absurd (busy c (subst (λ cs. Has cs c) calls h) rests) }
+  stays_same d calls = record { rests = λ c h rests. inr (busy c (subst (λ cs. Has cs c) calls h) rests) }
 
   stays_on : (c : Call R) (p : Present R) → (p ≡ resting → ⊥) → Stays (quiet (calls_now x (record c { present = p })))
   stays_on c p not = record {
     rests = λ e h rests. elim (was x.calls (record c { present = p }) e h) [
-      | inl same ↦ absurd (busy e same.0 rests)
+      | inl same ↦ inr (busy e same.0 rests)
       | inr k ↦ absurd (not (ap (λ (z : Call R). z.present) k.3 ∙ rests))
     ];
   }
@@ -50,8 +50,8 @@ module _ {R L : Type 0} (x : Node R L) (busy : (c : Call R) → Has x.calls c �
   stays_ended : (c : Call R) (how : PhaseEnd R) (keeps : List R) (reads : List (Reading R)) → Stays (record (ended x c how) { keeps = keeps; reads = reads })
   stays_ended c how keeps reads = record {
     rests = λ e h rests. elim (was x.calls (record c { present = resting }) e h) [
-      | inl same ↦ absurd (busy e same.0 rests)
-      | inr k ↦ sym (ap (λ (z : Call R). z.request) k.3) ∙ k.2
+      | inl same ↦ inr (busy e same.0 rests)
+      | inr k ↦ inl (sym (ap (λ (z : Call R). z.request) k.3) ∙ k.2)
     ];
   }
 

@@ -14,14 +14,14 @@ use Rattle.cluster_machine.specs.Hashes.{NoClash as NoTrieClash}
 use Rattle.store_laws.specs.Hashed.{ActsHash}
 use Rattle.store_laws.specs.Promised.{UsesGreatest, GoesOn, IsRightlySuperseded, IsAnchored}
 use Rattle.store_anchors.specs.Stored.{BlocksDiffer}
-use Rattle.store_anchors.specs.Copied.{CopiesSources}
+use Rattle.store_anchors.specs.Copied.{CopiesEndRightly, CopiesSources}
 use Rattle.store_anchors.specs.Whole.{GivesAllBytes}
 
 -- no two of the strings that these acts hash for walks have one digest, and none has 32 zero bytes
 abbrev pub WalksAreClear : List Act → Type 0
 WalksAreClear acts = NoTrieClash (ActsHash start acts)
 
--- what is promised of acts: each layout in use has the greatest partition size, what answers tell of a version's bytes is as was written, and replicas are equal. And where no digests of walks clash: each phase of a read gave at least all rows that were kept before it began; answered reads are fresh, also by the records alone where the buckets' names have different digests; what they tell of bytes in blocks is as was written too where no two blocks have one digest; a copy takes what was written to its source; a get or copy ends superseded only where what it read was overwritten, and no request waits for what never comes; and acknowledged blocks that are not deleted lie at a node with a live reference
+-- what is promised of acts: each layout in use has the greatest partition size, what answers tell of a version's bytes is as was written, and replicas are equal. And where no digests of walks clash: each phase of a read gave at least all rows that were kept before it began; answered reads are fresh, also by the records alone where the buckets' names have different digests; what they tell of bytes in blocks is as was written too where no two blocks have one digest; a copy takes what was written to its source; a get or copy ends superseded only where what it read was overwritten, of a get its object and of a copy its source, and no request waits for what never comes; and acknowledged blocks that are not deleted lie at a node with a live reference
 pub record KeepsPromises (acts : List Act) : Type 0 where
   pub greatest : UsesGreatest (after_acts start acts).world
   pub written : GivesWhatWasWritten acts
@@ -32,6 +32,7 @@ pub record KeepsPromises (acts : List Act) : Type 0 where
   pub whole : WalksAreClear acts → BlocksDiffer acts → GivesAllBytes acts
   pub copied : WalksAreClear acts → CopiesSources acts
   pub superseded : WalksAreClear acts → IsRightlySuperseded acts
+  pub copies_end : WalksAreClear acts → CopiesEndRightly acts
   pub goes_on : WalksAreClear acts → GoesOn (after_acts start acts)
   pub anchored : WalksAreClear acts → BlocksDiffer acts → IsAnchored acts
 

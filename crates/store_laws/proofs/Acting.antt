@@ -35,10 +35,10 @@ use Rattle.flow_model.specs.declared.flow.Wish.TheVariants as wish
 use Rattle.flow_model.specs.declared.flow.Aim.{Aim}
 use Rattle.flow_model.specs.declared.flow.Aim.TheVariants as aim
 use Rattle.flow_model.specs.declared.flow.Stage.{Stage}
-use Rattle.flow_model.specs.declared.flow.Stage.TheVariants.{Drawing, Uploading, Completing, Looking, Opening, Gathering, Listing}
+use Rattle.flow_model.specs.declared.flow.Stage.TheVariants.{Drawing, Uploading, Receiving, Needing, Aborting, Completing, Looking, Opening, Gathering, Listing}
 use Rattle.flow_model.specs.declared.flow.Flow.{Flow}
 use Rattle.flow_model.specs.declared.flow.FlowStep.{FlowStep}
-use Rattle.flow_model.specs.declared.flow.FlowEnd.TheVariants.{Stored, Found, Nothing, Listed, Superseded}
+use Rattle.flow_model.specs.declared.flow.FlowEnd.TheVariants.{Stored, Found, Nothing, Listed, Superseded, Aborted}
 use Rattle.flow_model.specs.Blocks.{has_piece, is_long}
 use Rattle.flow_model.specs.Rows.{meta_of, uploading, block_rows}
 use Rattle.flow_model.specs.Says.{Said, none, marked, inline, in_blocks, said_of, Named, unnamed, whole, deleted, named_by, shown_rows}
@@ -56,7 +56,7 @@ use Rattle.store_laws.proofs.Finishing.{IsEndOf}
 use Rattle.store_laws.proofs.Rows.{IsInBlocks, SaysWritten}
 use Rattle.store_laws.proofs.Values.{gave_drawn, version_end, given_good, read_written, inline_found, blocks_found, none_end, marked_end}
 use Rattle.store_laws.proofs.Enders.{finishes_keeps, one_end, read_end, nothing_end, stored_end}
-use Rattle.store_laws.proofs.Going.{flow_of, waits_keeps, writes_keeps, uploading_keeps, block_keeps, completes_keeps, draws_keeps, opens_keeps, fetches_keeps, scans_keeps}
+use Rattle.store_laws.proofs.Going.{flow_of, waits_keeps, waits_for, writes_keeps, uploading_keeps, announcing_keeps, block_keeps, completes_keeps, draws_keeps, opens_keeps, fetches_keeps, scans_keeps}
 use Rattle.store_laws.proofs.Hashing.{FitIn}
 
 -- a get or head names its own key
@@ -108,6 +108,10 @@ module _ {H : List ℕ → Type 0} where
 
     never_finished : (id n : ℕ) (x : Answer) → record_of q (Superseded id) ≡ Finished n x → IsEndOf H s n x
     never_finished id n x e = cc
+
+    -- nor does a streamed upload that was given up
+    aborted_never : (n : ℕ) (x : Answer) → record_of q Aborted ≡ Finished n x → IsEndOf H s n x
+    aborted_never n x e = cc
 
     -- a read whose version was deleted
     superseded_keeps : (id : ℕ) → FitIn H s.world (finishes s q a (Superseded id)).moves → IsSound H (finishes s q a (Superseded id)).state
@@ -217,12 +221,14 @@ module _ {H : List ℕ → Type 0} where
         let d : Draw = record { request = q; name = name; version = v; wish = wish.Content c; block = block; moment = length s.history } in
         (elim (is_long c.body) as (λ b. StepKeeps now (d ∷ []) (elim b as (λ b. FlowStep) [ true ↦ more q block (Uploading name v c 0) (stores (uploading name v)) | false ↦ completes q block name v (wish.Content c) ])) [
           | true ↦ λ fits. uploading_keeps every now q a at rests block name c value time name_is fits_kind fits (seen_sound (Answered value) end)
-          | false ↦ λ fits. writes_keeps every now q a at rests block name (wish.Content c) value time (Some (meta_of c)) name_is fits_kind fits (seen_sound (Answered value) end)
+          | false ↦ λ fits. writes_keeps every now q a at rests block name (wish.Content c) value time (Some (meta_of c)) name_is fits_kind tt fits (seen_sound (Answered value) end)
         ]) fits
 
     drawing_keeps : (name : Name) (w : Wish) (value : Option AnyRow) → Keeps (Drawing name w) (Answered value)
     drawing_keeps name wish.Marker value flow_is stage fits end =
-        writes_keeps every (seeing (Answered value)) q a at rests block name wish.Marker value (clock s.world a.node) None stage.0 stage.1 fits (seen_sound (Answered value) end)
+        writes_keeps every (seeing (Answered value)) q a at rests block name wish.Marker value (clock s.world a.node) None stage.0 stage.1 tt fits (seen_sound (Answered value) end)
+    drawing_keeps name (wish.Stream coming) value flow_is stage fits end =
+        announcing_keeps every (seeing (Answered value)) q a at rests block name coming value (clock s.world a.node) stage.0 stage.1 fits (seen_sound (Answered value) end)
     drawing_keeps name (wish.Content c) value flow_is stage fits end = content_keeps name c value stage.0 stage.1 flow_is stage fits end
 
     -- the next block is stored, or the complete version
@@ -247,6 +253,18 @@ module _ {H : List ℕ → Type 0} where
     stage_keeps (Uploading name version content stored) (Window rows more) flow_is stage fits end = goes_waiting (Uploading name version content stored) (Window rows more) flow_is end
     stage_keeps (Uploading name version content stored) Kept flow_is stage fits end = uploads_keeps name version content stored flow_is stage fits end
     stage_keeps (Uploading name version content stored) (Block bytes) flow_is stage fits end = goes_waiting (Uploading name version content stored) (Block bytes) flow_is end
+    stage_keeps (Receiving name version coming received) (Answered value) flow_is stage fits end = goes_waiting (Receiving name version coming received) (Answered value) flow_is end
+    stage_keeps (Receiving name version coming received) (Window rows more) flow_is stage fits end = goes_waiting (Receiving name version coming received) (Window rows more) flow_is end
+    stage_keeps (Receiving name version coming received) Kept flow_is stage fits end = waits_for every (seeing Kept) q a at rests block (Needing name version coming received) stage (seen_sound Kept end)
+    stage_keeps (Receiving name version coming received) (Block bytes) flow_is stage fits end = goes_waiting (Receiving name version coming received) (Block bytes) flow_is end
+    stage_keeps (Needing name version coming received) (Answered value) flow_is stage fits end = goes_waiting (Needing name version coming received) (Answered value) flow_is end
+    stage_keeps (Needing name version coming received) (Window rows more) flow_is stage fits end = goes_waiting (Needing name version coming received) (Window rows more) flow_is end
+    stage_keeps (Needing name version coming received) Kept flow_is stage fits end = goes_waiting (Needing name version coming received) Kept flow_is end
+    stage_keeps (Needing name version coming received) (Block bytes) flow_is stage fits end = goes_waiting (Needing name version coming received) (Block bytes) flow_is end
+    stage_keeps (Aborting version) (Answered value) flow_is stage fits end = goes_waiting (Aborting version) (Answered value) flow_is end
+    stage_keeps (Aborting version) (Window rows more) flow_is stage fits end = goes_waiting (Aborting version) (Window rows more) flow_is end
+    stage_keeps (Aborting version) Kept flow_is stage fits end = let now : State = seeing Kept in finishes_keeps every now q a at rests Aborted fits (aborted_never every now q a at rests block (seen_sound Kept end)) (seen_sound Kept end)
+    stage_keeps (Aborting version) (Block bytes) flow_is stage fits end = goes_waiting (Aborting version) (Block bytes) flow_is end
     stage_keeps (Completing version meta) (Answered value) flow_is stage fits end = goes_waiting (Completing version meta) (Answered value) flow_is end
     stage_keeps (Completing version meta) (Window rows more) flow_is stage fits end = goes_waiting (Completing version meta) (Window rows more) flow_is end
     stage_keeps (Completing version meta) Kept flow_is stage fits end =

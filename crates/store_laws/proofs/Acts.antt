@@ -29,7 +29,7 @@ use Rattle.flow_model.specs.declared.flow.Flow.{Flow}
 use Rattle.flow_model.specs.Flow.{asks_for, asks_past}
 use Rattle.store_model.specs.Orders.{buckets_of}
 use Rattle.store_model.specs.Run.{Moving, State, start, Asked, Outcome, silent, refusal, plainly, effect, doing, is_bucket, are_buckets, phases, new_request, opened, begins, follows, follow, goes_on, delivers, then_drains, drains}
-use Rattle.store_model.specs.Acts.{Act, moves, installs, asks, delivery, drain, forgets, takes as takes_end, without_end, adds, cuts, endings, plain, acted, after_acts, IsOuter, HasKey, IsLawfulAct, AreLawfulActs, ActsFit}
+use Rattle.store_model.specs.Acts.{Act, moves, installs, asks, delivery, drain, forgets, takes as takes_end, without_end, adds, cuts, feeds, keeps, gives_up, endings, plain, acted, after_acts, IsOuter, HasKey, IsLawfulAct, AreLawfulActs, ActsFit}
 use Rattle.store_model.specs.Fresh.{IsFresh}
 use Rattle.store_model.proofs.Leads.{delivers_lead}
 use Rattle.store_laws.proofs.Elements.{bucket_in, none_in}
@@ -37,7 +37,7 @@ use Rattle.machine_origins.proofs.Calm.{IsCalmStep}
 use Rattle.store_laws.proofs.Every.{EveryWorld}
 use Rattle.store_laws.proofs.Good.{IsGood}
 use Rattle.store_laws.proofs.Placing.{asks_is_step, asks_is_meant, scan_is_step, scan_is_meant}
-use Rattle.store_laws.proofs.Sound.{began, AsksRow, AsksFor, listed, HasShown, IsStage, IsSound}
+use Rattle.store_laws.proofs.Sound.{began, HasPhase, AsksRow, AsksFor, listed, HasShown, IsStage, IsSound}
 use Rattle.store_laws.proofs.Orders.{past_none}
 use Rattle.history_model.specs.declared.record.Kind.{Kind}
 use Rattle.history_model.specs.declared.record.Kind.TheVariants as kind
@@ -54,6 +54,7 @@ use Rattle.store_laws.proofs.Enders.{is_calm}
 use Rattle.store_laws.proofs.Starting.{start_sound, bucket_sound, block_sound, ends_sound, forgetting_sound}
 use Rattle.store_laws.proofs.Going.{flow_of}
 use Rattle.store_laws.proofs.Acting.{stage_keeps}
+use Rattle.store_laws.proofs.Hearing.{feeding_keeps, keeping_keeps, giving_up_keeps}
 use Rattle.cluster_machine.specs.Hashes.{NoClash as NoTrieClash}
 use Rattle.store_laws.specs.Hashed.{ActsHash}
 use Rattle.store_laws.proofs.Hashing.{FitIn, fit_in, in_parts}
@@ -122,16 +123,16 @@ module _ {H : List ℕ → Type 0} where
     -- ---- requests
 
     -- a request opens and asks for an object's row
-    opens_keeps : (s : State) (a : Asked) (stage : Stage) (name : Name) → (let q = suc (length s.world.requests) in a.flow ≡ Some (flow_of q s.block stage) → IsStage H s.draws (s.history ++ beginning s a ∷ []) q a stage →
+    opens_keeps : (s : State) (a : Asked) (stage : Stage) (name : Name) → (let q = suc (length s.world.requests) in a.flow ≡ Some (flow_of q s.block stage) → IsStage H s.draws (s.history ++ beginning s a ∷ []) q a stage → HasPhase stage →
         ((question : Question AnyRow) → AsksRow name question → AsksFor stage question) → is_member_at layouts s.world a.node ≡ true → Contains s.buckets a.name.bucket → (IsTrue (is_write a.kind) → 1 ≤ length a.name.key) →
         FitIn H s.world (plainly (step.Open a.node) ∷ phases q (asks_for name) ∷ []) → IsSound H s → IsSound H (doing (opening s a) (phases q (asks_for name))))
-    opens_keeps s a stage name flow_is is_stage asks_so member bucket keyed fits sound =
+    opens_keeps s a stage name flow_is is_stage has_phase asks_so member bucket keyed fits sound =
         let q : ℕ = suc (length s.world.requests) in
         let flow : Flow = flow_of q s.block stage in
         let now : State = opening s a in
         let is_open : IsSound H now = opened_sound s a flow flow_is refl is_stage member bucket keyed (tt, tt, tt, fits.0.1, tt) fits.0.2 sound in
         step_sound now (phases q (asks_for name)) is_open (asks_is_meant q name, asks_is_step q name, tt, fits.1.0.1, tt) fits.1.0.2 (All-nil (IsGood s.draws))
-        (asks_fine now is_open (reached_different every now.world is_open.reached) q a flow (new_there s a sound) flow_is name asks_so)
+        (asks_fine now is_open (reached_different every now.world is_open.reached) q a flow (new_there s a sound) flow_is has_phase name asks_so)
 
     -- a list opens and scans from the first key on
     lists_open : (s : State) (a : Asked) (bucket prefix : List ℕ) → (let q = suc (length s.world.requests) in a.flow ≡ Some (flow_of q s.block (Listing bucket prefix [])) → a.kind ≡ kind.List → a.name ≡ record { bucket = bucket; key = prefix } →
@@ -154,28 +155,32 @@ module _ {H : List ℕ → Type 0} where
               cc;
         } in
         step_sound now (phases q (asks_past bucket prefix [])) is_open (scan_is_meant q bucket prefix [], scan_is_step q bucket prefix [], tt, fits.1.0.1, tt) fits.1.0.2 (All-nil (IsGood s.draws))
-        (scans_fine now is_open (reached_different every now.world is_open.reached) q a flow (new_there s a sound) flow_is bucket prefix []
+        (scans_fine now is_open (reached_different every now.world is_open.reached) q a flow (new_there s a sound) flow_is tt bucket prefix []
         (λ scan position prefix_is after_is. (position, prefix_is, subst (λ (e : List ℕ). HasShown H now.draws now.history now.saw q own [] (Some e)) (sym after_is) shown)))
 
     opened_keeps : (s : State) (n : ℕ) (o : Order) → HasKey o → is_member_at layouts s.world n ≡ true → are_buckets s.buckets (buckets_of o) ≡ true → FitIn H s.world (opened s n o).moves → IsSound H s → IsSound H (opened s n o).state
     opened_keeps s n (order.Put bucket key body headers) keyed member buckets fits sound =
         let name : Name = record { bucket = bucket; key = key } in
-        opens_keeps s (new_request n (order.Put bucket key body headers) _) (Drawing name (wish.Content (record { body = body; headers = headers }))) name refl (refl, refl) (λ question h. h) member
+        opens_keeps s (new_request n (order.Put bucket key body headers) _) (Drawing name (wish.Content (record { body = body; headers = headers }))) name refl (refl, refl) tt (λ question h. h) member
         (bucket_in s.buckets bucket (and_parts (is_bucket s.buckets bucket) true buckets).0) (λ w. keyed) fits sound
+    opened_keeps s n (order.Stream bucket key announced headers) keyed member buckets fits sound =
+        let name : Name = record { bucket = bucket; key = key } in
+        opens_keeps s (new_request n (order.Stream bucket key announced headers) _) (Drawing name (wish.Stream (record { length = announced; headers = headers }))) name refl (refl, refl) tt (λ question h. h) member
+        (bucket_in s.buckets bucket (and_parts (is_bucket s.buckets bucket) true buckets).0) (λ w. keyed.0) fits sound
     opened_keeps s n (order.Get bucket key) keyed member buckets fits sound =
         let name : Name = record { bucket = bucket; key = key } in
-        opens_keeps s (new_request n (order.Get bucket key) _) (Looking name aim.Get) name refl (refl, refl) (λ question h. h) member (bucket_in s.buckets bucket (and_parts (is_bucket s.buckets bucket) true buckets).0) (λ w. cc) fits sound
+        opens_keeps s (new_request n (order.Get bucket key) _) (Looking name aim.Get) name refl (refl, refl) tt (λ question h. h) member (bucket_in s.buckets bucket (and_parts (is_bucket s.buckets bucket) true buckets).0) (λ w. cc) fits sound
     opened_keeps s n (order.Head bucket key) keyed member buckets fits sound =
         let name : Name = record { bucket = bucket; key = key } in
-        opens_keeps s (new_request n (order.Head bucket key) _) (Looking name aim.Head) name refl (refl, refl) (λ question h. h) member (bucket_in s.buckets bucket (and_parts (is_bucket s.buckets bucket) true buckets).0) (λ w. cc) fits sound
+        opens_keeps s (new_request n (order.Head bucket key) _) (Looking name aim.Head) name refl (refl, refl) tt (λ question h. h) member (bucket_in s.buckets bucket (and_parts (is_bucket s.buckets bucket) true buckets).0) (λ w. cc) fits sound
     opened_keeps s n (order.Delete bucket key) keyed member buckets fits sound =
         let name : Name = record { bucket = bucket; key = key } in
-        opens_keeps s (new_request n (order.Delete bucket key) _) (Drawing name wish.Marker) name refl (refl, refl) (λ question h. h) member (bucket_in s.buckets bucket (and_parts (is_bucket s.buckets bucket) true buckets).0) (λ w. keyed) fits sound
+        opens_keeps s (new_request n (order.Delete bucket key) _) (Drawing name wish.Marker) name refl (refl, refl) tt (λ question h. h) member (bucket_in s.buckets bucket (and_parts (is_bucket s.buckets bucket) true buckets).0) (λ w. keyed) fits sound
     opened_keeps s n (order.Copy from_bucket from_key bucket key headers) keyed member buckets fits sound =
         let name : Name = record { bucket = from_bucket; key = from_key } in
         let new : Name = record { bucket = bucket; key = key } in
         let both = and_parts (is_bucket s.buckets from_bucket) (is_bucket s.buckets bucket && true) buckets in
-        opens_keeps s (new_request n (order.Copy from_bucket from_key bucket key headers) _) (Looking name (aim.Copy new headers)) name refl ((refl, refl), tt) (λ question h. h) member
+        opens_keeps s (new_request n (order.Copy from_bucket from_key bucket key headers) _) (Looking name (aim.Copy new headers)) name refl ((refl, refl), tt) tt (λ question h. h) member
         (bucket_in s.buckets bucket (and_parts (is_bucket s.buckets bucket) true both.1).0) (λ w. keyed) fits sound
     opened_keeps s n (order.List bucket prefix) keyed member buckets fits sound =
         lists_open s (new_request n (order.List bucket prefix) _) bucket prefix refl refl refl member (bucket_in s.buckets bucket (and_parts (is_bucket s.buckets bucket) true buckets).0) fits sound
@@ -242,6 +247,9 @@ module _ {H : List ℕ → Type 0} where
     act_keeps s (takes_end q) lawful fits sound = ends_sound s (without_end s.ends q) sound
     act_keeps s (adds name) lawful fits sound = bucket_sound s name sound
     act_keeps s (cuts block) lawful fits sound = block_sound s block sound
+    act_keeps s (feeds q bytes) lawful fits sound = feeding_keeps every s q sound bytes fits
+    act_keeps s (keeps q) lawful fits sound = keeping_keeps every s q sound fits
+    act_keeps s (gives_up q) lawful fits sound = giving_up_keeps every s q sound fits
 
     pub acts_keep : (s : State) (as' : List Act) → AreLawfulActs s as' → ActsFit s as' → ((x : List ℕ) → ActsHash s as' x → H x) → IsSound H s → IsSound H (after_acts s as')
     acts_keep s [] lawful fit all sound = sound

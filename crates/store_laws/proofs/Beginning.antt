@@ -28,7 +28,7 @@ use Rattle.flow_model.specs.declared.flow.Name.{Name}
 use Rattle.flow_model.specs.declared.flow.Flow.{Flow}
 use Rattle.flow_model.specs.Flow.{asks_for, asks_past}
 use Rattle.store_model.specs.Run.{State, Asked, phases, effect}
-use Rattle.store_laws.proofs.Sound.{began, WasAcknowledged, IsProper, AreProper, AsksRow, AsksFor, StoresFor, ScansFor, HasBefore, AskedAt, IsPresent, IsSound}
+use Rattle.store_laws.proofs.Sound.{began, WasAcknowledged, IsProper, AreProper, AsksRow, AsksFor, StoresFor, ScansFor, HasBefore, HasPhase, AskedAt, IsPresent, IsSound}
 use Rattle.store_laws.proofs.Ends.{asked_of}
 use Rattle.store_laws.proofs.Grown.{IsStill}
 use Rattle.store_laws.proofs.Stepping.{IsFine, fine_still, fine_one, fine_cond}
@@ -45,12 +45,12 @@ acknowledged_part before rest name version a = record {
 }
 
 module _ {H : List ℕ → Type 0} where
-  module _ (s : State) (sound : IsSound H s) (differ : (n : ℕ) → AreDifferent (s.world.nodes n).calls) (q : ℕ) (a : Asked) (flow : Flow) (at : numbered s.asked q ≡ Some a) (flow_is : a.flow ≡ Some flow) where
+  module _ (s : State) (sound : IsSound H s) (differ : (n : ℕ) → AreDifferent (s.world.nodes n).calls) (q : ℕ) (a : Asked) (flow : Flow) (at : numbered s.asked q ≡ Some a) (flow_is : a.flow ≡ Some flow) (has_phase : HasPhase flow.stage) where
     still_at : (n : ℕ) → AskedAt s.asked n q → IsStill s.asked n q flow
     still_at n h =
         let some_is : Some h.one ≡ Some a = sym h.is_there ∙ at in
         let one_is : h.one ≡ a = cc in
-        record { waits = record { one = h.one; is_there = h.is_there; node_is = h.node_is; flow = flow; flow_is = ap (λ (b : Asked). b.flow) one_is ∙ flow_is }; flow_is = refl }
+        record { waits = record { one = h.one; is_there = h.is_there; node_is = h.node_is; flow = flow; flow_is = ap (λ (b : Asked). b.flow) one_is ∙ flow_is; has_phase = has_phase }; flow_is = refl }
 
     module _ (phase : Phase AnyRow) (is : (n : ℕ) → IsStill s.asked n q flow → (p : Present AnyRow) → Began s.world.kept phase p → IsPresent H s.asked s.draws s.history s.saw n q p) where
       call_fine : (n : ℕ) (o : Option (Call AnyRow)) → call_at (s.world.nodes n).calls q ≡ o → IsFine H s (begun any_join words layouts trio stage_trio s.world n phase o)

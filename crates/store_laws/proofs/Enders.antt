@@ -25,7 +25,7 @@ use Rattle.flow_model.specs.declared.flow.Stage.{Stage}
 use Rattle.flow_model.specs.declared.flow.Stage.TheVariants.{Completing}
 use Rattle.flow_model.specs.declared.flow.Flow.{Flow}
 use Rattle.flow_model.specs.declared.flow.FlowEnd.{FlowEnd}
-use Rattle.flow_model.specs.declared.flow.FlowEnd.TheVariants.{Stored, Found, Nothing, Listed, Superseded}
+use Rattle.flow_model.specs.declared.flow.FlowEnd.TheVariants.{Stored, Found, Nothing, Listed, Superseded, Aborted}
 use Rattle.flow_model.specs.Rows.{complete}
 use Rattle.store_model.specs.Answers.{record_of}
 use Rattle.history_model.specs.declared.record.Record.{Record}
@@ -65,6 +65,7 @@ delete_writes kind.List h = cc
 
 pub wish_writes : (k : Kind) (w : Wish) → IsWishOf k w → IsTrue (is_write k)
 wish_writes k wish.Marker h = delete_writes k h
+wish_writes k (wish.Stream coming) h = source_writes k h
 wish_writes k (wish.Content c) h = source_writes k h
 
 -- a write doesn't read
@@ -91,6 +92,7 @@ module _ {H : List ℕ → Type 0} where
       never_begins Nothing p n k name e = cc
       never_begins (Listed rows) p n k name e = cc
       never_begins (Superseded id) p n k name e = cc
+      never_begins Aborted p n k name e = cc
 
       -- a request that finishes with what it owes
       pub finishes_keeps : (end : FlowEnd) → FitIn H s.world (finishes s q a end).moves → ((n : ℕ) (x : Answer) → record_of q end ≡ Finished n x → IsEndOf H s n x) →

@@ -1,4 +1,4 @@
--- A request draws once.
+-- A request makes one write.
 use Rattle.std.proofs.Common.{◌≡◌, inl, inr, ℕ, zero, suc, ◌-◌, true, false, Option, Some, None, if◌then◌else◌, List, [], ◌∷◌, ◌++◌, length, slice_set, refl, sym, ap, ◌∙◌, subst}
 use Rattle.std.specs.Prelude.{⊤}
 use Rattle.std.specs.List.{Contains}
@@ -19,41 +19,57 @@ use Rattle.flow_model.specs.declared.flow.Content.{Content}
 use Rattle.flow_model.specs.declared.flow.Wish.{Wish}
 use Rattle.flow_model.specs.declared.flow.Wish.TheVariants as wish
 use Rattle.flow_model.specs.declared.flow.Stage.{Stage}
-use Rattle.flow_model.specs.declared.flow.Stage.TheVariants.{Drawing, Uploading, Completing, Looking, Opening, Gathering, Listing}
+use Rattle.flow_model.specs.declared.flow.Stage.TheVariants.{Drawing, Uploading, Receiving, Needing, Aborting, Completing, Looking, Opening, Gathering, Listing}
 use Rattle.flow_model.specs.declared.flow.Flow.{Flow}
 use Rattle.flow_model.specs.declared.flow.FlowStep.{FlowStep}
-use Rattle.flow_model.specs.declared.flow.FlowStep.TheVariants.{More, Wait, End}
+use Rattle.flow_model.specs.declared.flow.FlowStep.TheVariants.{More, Need, Wait, End}
 use Rattle.flow_model.specs.Blocks.{has_piece, is_long}
-use Rattle.flow_model.specs.Rows.{uploading, block_rows}
+use Rattle.flow_model.specs.Rows.{meta_of, content_of, uploading, aborted, block_rows, rows_at}
 use Rattle.flow_model.specs.Next.{drawn, stores, more, completes, writes, uploads, goes_on as flow_goes_on}
+use Rattle.flow_model.specs.Streams.{fed, finished, given_up, fed_in, kept_in, given_up_in}
 use Rattle.store_model.specs.Orders.{buckets_of}
-use Rattle.store_model.specs.Run.{Moving, State, start, Asked, Draw, Outcome, silent, refusal, plainly, effect, doing, are_buckets, opened as opens_request, begins, draws_of, takes, follows, follow, goes_on, delivers, then_drains, drains}
-use Rattle.store_model.specs.Acts.{Act, moves, installs, asks, delivery, drain, forgets, takes as takes_end, adds, cuts, acted, after_acts, AreLawfulActs, ActsFit}
-use Rattle.store_model.specs.Written.{AreDrawnOnce}
-use Rattle.store_laws.proofs.Elements.{none_in, only}
+use Rattle.store_model.specs.Run.{Moving, State, start, Asked, Draw, Outcome, silent, refusal, plainly, effect, doing, are_buckets, opened as opens_request, begins, draws_of, takes, follows, follow, goes_on, delivers, then_drains, drains, hears, heard_in, heard, fills_of, fills_in, fills_at}
+use Rattle.store_model.specs.Acts.{Act, moves, installs, asks, delivery, drain, forgets, takes as takes_end, adds, cuts, feeds, keeps, gives_up, acted, after_acts, AreLawfulActs, ActsFit}
+use Rattle.store_model.specs.Written.{IsFilled, IsOneWrite, AreDrawnOnce}
+use Rattle.store_laws.proofs.Elements.{none_in, only, cons_cases}
 use Rattle.store_laws.proofs.Records.{is_in}
 use Rattle.machine_origins.proofs.Places.{numbered_append, numbered_set_here, numbered_set_cases}
 use Rattle.store_laws.proofs.Every.{EveryWorld}
-use Rattle.store_laws.proofs.Sound.{IsSound}
+use Rattle.store_laws.proofs.Sound.{HasWished, IsStage, IsSound}
 use Rattle.store_laws.proofs.Starting.{start_sound}
 use Rattle.store_laws.proofs.Acts.{act_keeps}
 use Rattle.store_laws.specs.Hashed.{ActsHash}
 use Rattle.store_laws.proofs.Hashing.{fit_in}
 
--- a request that waits so has drawn
-abbrev pub IsPast : Stage → Type 0
-IsPast (Uploading name version content stored) = ⊤
-IsPast (Completing version meta) = ⊤
-IsPast _ = ⊥
+-- a request that waits so has drawn this: for its stream, while the bytes of one come
+abbrev pub IsPast : Draw → Stage → Type 0
+IsPast d (Uploading name version content stored) = ⊤
+IsPast d (Receiving name version coming received) = d.wish ≡ wish.Stream coming
+IsPast d (Needing name version coming received) = d.wish ≡ wish.Stream coming
+IsPast d (Aborting version) = ⊤
+IsPast d (Completing version meta) = ⊤
+IsPast d _ = ⊥
 
--- each request drew once at most, and waits for nothing that comes before
+-- each request made one write at most, and waits for nothing that comes before its draws
 pub record IsOnce (asked : List Asked) (draws : List Draw) : Type 0 where
-  pub one : (d e : Draw) → Contains draws d → Contains draws e → d.request ≡ e.request → d ≡ e
-  pub past : (d : Draw) (a : Asked) (flow : Flow) → Contains draws d → numbered asked d.request ≡ Some a → a.flow ≡ Some flow → IsPast flow.stage
+  pub one : (d e : Draw) → Contains draws d → Contains draws e → d.request ≡ e.request → IsOneWrite d e
+  pub past : (d : Draw) (a : Asked) (flow : Flow) → Contains draws d → numbered asked d.request ≡ Some a → a.flow ≡ Some flow → IsPast d flow.stage
+
+-- the same of the two the other way round
+pub other_way : (d e : Draw) → IsOneWrite d e → IsOneWrite e d
+other_way d e (inl same) = inl (sym same)
+other_way d e (inr (inl filled)) = inr (inr filled)
+other_way d e (inr (inr filled)) = inr (inl filled)
+
+-- draws of one write have one version
+pub one_version : (d e : Draw) → IsOneWrite d e → d.version ≡ e.version
+one_version d e (inl same) = ap (λ (x : Draw). x.version) same
+one_version d e (inr (inl filled)) = filled.version_is
+one_version d e (inr (inr filled)) = sym filled.version_is
 
 module _ (asked : List Asked) (draws ds : List Draw) (q : ℕ) (a : Asked) (flow : Option Flow) (at : numbered asked q ≡ Some a) (once : IsOnce asked draws)
     (single : (d e : Draw) → Contains ds d → Contains ds e → d ≡ e) (own : (d : Draw) → Contains ds d → d.request ≡ q)
-    (new : (d e : Draw) → Contains ds d → Contains draws e → e.request ≡ q → ⊥) (later : (f : Flow) (d : Draw) → flow ≡ Some f → Contains (ds ++ draws) d → d.request ≡ q → IsPast f.stage) where
+    (new : (d e : Draw) → Contains ds d → Contains draws e → e.request ≡ q → IsOneWrite d e) (later : (f : Flow) (d : Draw) → flow ≡ Some f → Contains (ds ++ draws) d → d.request ≡ q → IsPast d f.stage) where
   abbrev set_now : Asked
   set_now = record a { flow = flow }
 
@@ -61,11 +77,11 @@ module _ (asked : List Asked) (draws ds : List Draw) (q : ℕ) (a : Asked) (flow
   once_set = record {
     one = λ d e c k same. elim (Contains-append_cases ds draws d c) [
       | inl dn ↦ (elim (Contains-append_cases ds draws e k) [
-        | inl en ↦ single d e dn en
-        | inr eo ↦ absurd (new d e dn eo (sym same ∙ own d dn))
+        | inl en ↦ inl (single d e dn en)
+        | inr eo ↦ new d e dn eo (sym same ∙ own d dn)
       ])
       | inr old ↦ (elim (Contains-append_cases ds draws e k) [
-        | inl en ↦ absurd (new e d en old (same ∙ own e en))
+        | inl en ↦ other_way e d (new e d en old (same ∙ own e en))
         | inr eo ↦ once.one d e old eo same
       ])
     ];
@@ -81,32 +97,39 @@ module _ (asked : List Asked) (draws ds : List Draw) (q : ℕ) (a : Asked) (flow
     ];
   }
 
--- what a step leads to is past the draw
-abbrev pub StepPast : FlowStep → Type 0
-StepPast (More flow phase) = IsPast flow.stage
-StepPast (Wait flow) = IsPast flow.stage
-StepPast (End end) = ⊤
+-- what a step leads to is past this draw
+abbrev pub StepPast : Draw → FlowStep → Type 0
+StepPast d (More flow phase) = IsPast d flow.stage
+StepPast d (Need flow wanted) = IsPast d flow.stage
+StepPast d (Wait flow) = IsPast d flow.stage
+StepPast d (End end) = ⊤
 
-module _ (id block : ℕ) where
-  writes_past : (name : Name) (v : Version) (w : Wish) → StepPast (writes id block name v w)
-  writes_past name v wish.Marker = tt
-  writes_past name v (wish.Content c) =
-      elim (is_long c.body) as (λ b. StepPast (elim b as (λ b. FlowStep) [ true ↦ more id block (Uploading name v c 0) (stores (uploading name v)) | false ↦ completes id block name v (wish.Content c) ])) [
+module _ (id block : ℕ) (d : Draw) where
+  writes_past : (name : Name) (v : Version) (w : Wish) → d.wish ≡ w → StepPast d (writes id block name v w)
+  writes_past name v wish.Marker is = tt
+  writes_past name v (wish.Stream coming) is = is
+  writes_past name v (wish.Content c) is =
+      elim (is_long c.body) as (λ b. StepPast d (elim b as (λ b. FlowStep) [ true ↦ more id block (Uploading name v c 0) (stores (uploading name v)) | false ↦ completes id block name v (wish.Content c) ])) [
         | true ↦ tt
         | false ↦ tt
       ]
 
-  uploads_past : (name : Name) (v : Version) (c : Content) (i : ℕ) → StepPast (uploads id block name v c i)
+  uploads_past : (name : Name) (v : Version) (c : Content) (i : ℕ) → StepPast d (uploads id block name v c i)
   uploads_past name v c i =
-      elim (has_piece block c.body i) as (λ b. StepPast (elim b as (λ b. FlowStep) [ true ↦ more id block (Uploading name v c (suc i)) (Store (block_rows v.id block c.body i)) | false ↦ completes id block name v (wish.Content c) ])) [
+      elim (has_piece block c.body i) as (λ b. StepPast d (elim b as (λ b. FlowStep) [ true ↦ more id block (Uploading name v c (suc i)) (Store (block_rows v.id block c.body i)) | false ↦ completes id block name v (wish.Content c) ])) [
         | true ↦ tt
         | false ↦ tt
       ]
 
   -- who has drawn doesn't draw again
-  next_past : (stage : Stage) (end : PhaseEnd AnyRow) (now : ℕ) → IsPast stage → StepPast (flow_goes_on id block stage end now)
+  next_past : (stage : Stage) (end : PhaseEnd AnyRow) (now : ℕ) → IsPast d stage → StepPast d (flow_goes_on id block stage end now)
   next_past (Uploading name v c i) Kept now past = uploads_past name v c i
   next_past (Uploading name v c i) _ now past = tt
+  next_past (Receiving name v coming received) Kept now past = past
+  next_past (Receiving name v coming received) _ now past = past
+  next_past (Needing name v coming received) _ now past = past
+  next_past (Aborting v) Kept now past = tt
+  next_past (Aborting v) _ now past = tt
   next_past (Completing v meta) Kept now past = tt
   next_past (Completing v meta) _ now past = tt
   next_past (Drawing name w) end now past = absurd past
@@ -120,22 +143,27 @@ IsOnceIn s = IsOnce s.asked s.draws
 
 -- nothing is drawn
 module _ (s : State) (q : ℕ) (a : Asked) (at : numbered s.asked q ≡ Some a) (once : IsOnceIn s) where
-  set_once : (flow : Option Flow) → ((f : Flow) (d : Draw) → flow ≡ Some f → Contains s.draws d → d.request ≡ q → IsPast f.stage) → IsOnce (slice_set s.asked (q - 1) (record a { flow = flow })) s.draws
+  set_once : (flow : Option Flow) → ((f : Flow) (d : Draw) → flow ≡ Some f → Contains s.draws d → d.request ≡ q → IsPast d f.stage) → IsOnce (slice_set s.asked (q - 1) (record a { flow = flow })) s.draws
   set_once flow later = once_set s.asked s.draws [] q a flow at once (λ d e c k. absurd (none_in d c)) (λ d c. absurd (none_in d c)) (λ d e c k is. absurd (none_in d c)) later
 
   abbrev pub StepOnce : List Draw → FlowStep → Type 0
   StepOnce ds st = IsOnceIn (takes s q a ds st).state
 
-  still_once : (st : FlowStep) → ((d : Draw) → Contains s.draws d → d.request ≡ q → StepPast st) → StepOnce [] st
-  still_once (More flow phase) past = set_once (Some flow) (λ f d e c is. (let same : flow ≡ f = cc in subst (λ (g : Flow). IsPast g.stage) same (past d c is)))
-  still_once (Wait flow) past = set_once (Some flow) (λ f d e c is. (let same : flow ≡ f = cc in subst (λ (g : Flow). IsPast g.stage) same (past d c is)))
+  still_once : (st : FlowStep) → ((d : Draw) → Contains s.draws d → d.request ≡ q → StepPast d st) → StepOnce [] st
+  still_once (More flow phase) past = set_once (Some flow) (λ f d e c is. (let same : flow ≡ f = cc in subst (λ (g : Flow). IsPast d g.stage) same (past d c is)))
+  still_once (Need flow wanted) past = set_once (Some flow) (λ f d e c is. (let same : flow ≡ f = cc in subst (λ (g : Flow). IsPast d g.stage) same (past d c is)))
+  still_once (Wait flow) past = set_once (Some flow) (λ f d e c is. (let same : flow ≡ f = cc in subst (λ (g : Flow). IsPast d g.stage) same (past d c is)))
   still_once (End end) past = set_once None (λ f d e c is. cc)
 
   -- the request draws this
-  draws_once : (x : Draw) → x.request ≡ q → ((e : Draw) → Contains s.draws e → e.request ≡ q → ⊥) → (st : FlowStep) → StepPast st → StepOnce (x ∷ []) st
+  draws_once : (x : Draw) → x.request ≡ q → ((e : Draw) → Contains s.draws e → e.request ≡ q → ⊥) → (st : FlowStep) → StepPast x st → StepOnce (x ∷ []) st
   draws_once x own new (More flow phase) past =
-      once_set s.asked s.draws (x ∷ []) q a (Some flow) at once (λ d e c k. sym (only x d c) ∙ only x e k) (λ d c. ap (λ (y : Draw). y.request) (sym (only x d c)) ∙ own) (λ d e c k is. new e k is)
-      (λ f d e c is. (let same : flow ≡ f = cc in subst (λ (g : Flow). IsPast g.stage) same past))
+      once_set s.asked s.draws (x ∷ []) q a (Some flow) at once (λ d e c k. sym (only x d c) ∙ only x e k) (λ d c. ap (λ (y : Draw). y.request) (sym (only x d c)) ∙ own) (λ d e c k is. absurd (new e k is))
+      (λ f d e c is. (let same : flow ≡ f = cc in elim (cons_cases x s.draws d c) [
+        | inl here ↦ subst (λ (y : Draw). IsPast y f.stage) here (subst (λ (g : Flow). IsPast x g.stage) same past)
+        | inr old ↦ absurd (new d old is)
+      ]))
+  draws_once x own new (Need flow wanted) past = set_once (Some flow) (λ f d e c is. absurd (new d c is))
   draws_once x own new (Wait flow) past = set_once (Some flow) (λ f d e c is. absurd (new d c is))
   draws_once x own new (End end) past = set_once None (λ f d e c is. cc)
 
@@ -152,20 +180,23 @@ module _ (s : State) (q : ℕ) (a : Asked) (at : numbered s.asked q ≡ Some a) 
     abbrev StageOnce : Stage → PhaseEnd AnyRow → Type 0
     StageOnce stage end = a.flow ≡ Some (flow_so stage) → StepOnce seeing q a at once (draws_of s q block stage end now) (flow_goes_on id block stage end now)
 
-    has_past : (stage : Stage) → a.flow ≡ Some (flow_so stage) → (d : Draw) → Contains s.draws d → d.request ≡ q → IsPast stage
+    has_past : (stage : Stage) → a.flow ≡ Some (flow_so stage) → (d : Draw) → Contains s.draws d → d.request ≡ q → IsPast d stage
     has_past stage is d c own = once.past d a (flow_so stage) c (ap (numbered s.asked) own ∙ at) is
 
     still : (stage : Stage) (end : PhaseEnd AnyRow) → a.flow ≡ Some (flow_so stage) → StepOnce seeing q a at once [] (flow_goes_on id block stage end now)
-    still stage end is = still_once seeing q a at once (flow_goes_on id block stage end now) (λ d c own. next_past id block stage end now (has_past stage is d c own))
+    still stage end is = still_once seeing q a at once (flow_goes_on id block stage end now) (λ d c own. next_past id block d stage end now (has_past stage is d c own))
 
     stage_once : (stage : Stage) (end : PhaseEnd AnyRow) → StageOnce stage end
     stage_once (Drawing name w) (Answered value) is =
-        draws_once seeing q a at once (record { request = q; name = name; version = drawn q value now; wish = w; block = block; moment = length s.history }) refl (has_past (Drawing name w) is)
-        (writes id block name (drawn id value now) w) (writes_past id block name (drawn id value now) w)
+        let d : Draw = record { request = q; name = name; version = drawn q value now; wish = w; block = block; moment = length s.history } in
+        draws_once seeing q a at once d refl (has_past (Drawing name w) is) (writes id block name (drawn id value now) w) (writes_past id block d name (drawn id value now) w refl)
     stage_once (Drawing name w) (Window rows more) is = still (Drawing name w) (Window rows more) is
     stage_once (Drawing name w) Kept is = still (Drawing name w) Kept is
     stage_once (Drawing name w) (Block bytes) is = still (Drawing name w) (Block bytes) is
     stage_once (Uploading name v c i) end is = still (Uploading name v c i) end is
+    stage_once (Receiving name v coming received) end is = still (Receiving name v coming received) end is
+    stage_once (Needing name v coming received) end is = still (Needing name v coming received) end is
+    stage_once (Aborting v) end is = still (Aborting v) end is
     stage_once (Completing v meta) end is = still (Completing v meta) end is
     stage_once (Looking name aim) end is = still (Looking name aim) end is
     stage_once (Opening v meta aim) end is = still (Opening v meta aim) end is
@@ -194,6 +225,74 @@ drains_once (suc n) s once =
       | None ↦ once
       | Some m ↦ drains_once n (delivers s m).state (delivers_once s m once)
     ]
+
+-- ---- the client of a streamed upload was heard
+
+-- draws of one write are of one object
+pub one_name : (d e : Draw) → IsOneWrite d e → d.name ≡ e.name
+one_name d e (inl same) = ap (λ (x : Draw). x.name) same
+one_name d e (inr (inl filled)) = filled.name_is
+one_name d e (inr (inr filled)) = sym filled.name_is
+
+module _ {H : List ℕ → Type 0} where
+  module _ (s : State) (q : ℕ) (a : Asked) (at : numbered s.asked q ≡ Some a) (sound : IsSound H s) (once : IsOnceIn s) where
+    had_past : (flow : Flow) → a.flow ≡ Some flow → (d : Draw) → Contains s.draws d → d.request ≡ q → IsPast d flow.stage
+    had_past flow is d c own = once.past d a flow c (ap (numbered s.asked) own ∙ at) is
+
+    -- a block has come
+    fed_once : (bytes : List ℕ) (flow : Flow) (stage : Stage) → a.flow ≡ Some flow → flow.stage ≡ stage → IsOnceIn (hears s q a (fed_in flow.id flow.block stage bytes)).state
+    fed_once bytes flow (Needing name version coming received) is stage_is =
+        still_once s q a at once (More (record { id = flow.id; block = flow.block; stage = Receiving name version coming (received ++ bytes) }) (Store (rows_at version.id (length received) bytes)))
+        (λ d c own. subst (IsPast d) stage_is (had_past flow is d c own))
+    fed_once bytes flow _ is stage_is = once
+
+    -- the upload is given up
+    given_up_once : (flow : Flow) (stage : Stage) → IsOnceIn (hears s q a (given_up_in flow.id flow.block stage)).state
+    given_up_once flow (Needing name version coming received) =
+        still_once s q a at once (More (record { id = flow.id; block = flow.block; stage = Aborting version }) (stores (aborted name version))) (λ d c own. tt)
+    given_up_once flow _ = once
+
+    -- it is kept: its object is made of the bytes that came
+    kept_once : (flow : Flow) (stage : Stage) → a.flow ≡ Some flow → flow.stage ≡ stage → IsOnceIn (hears (record s { draws = fills_of s q flow.block stage ++ s.draws }) q a (kept_in flow.id flow.block stage)).state
+    kept_once flow (Needing name version coming received) is stage_is =
+        let x : Draw = record { request = q; name = name; version = version; wish = wish.Content (content_of coming received); block = flow.block; moment = length s.history } in
+        let wished : HasWished s.draws q name version (wish.Stream coming) = (subst (IsStage H s.draws s.history q a) stage_is (sound.stages q a flow at is).1).1 in
+        let w : Draw = record { request = q; name = name; version = version; wish = wish.Stream coming; block = wished.block; moment = wished.moment } in
+        let next : Flow = record { id = flow.id; block = flow.block; stage = Completing version (Some (meta_of (content_of coming received))) } in
+        once_set s.asked s.draws (x ∷ []) q a (Some next) at once
+        (λ d e c k. sym (only x d c) ∙ only x e k) (λ d c. ap (λ (y : Draw). y.request) (sym (only x d c)))
+        (λ d e c k own.
+        let one : IsOneWrite e w = once.one e w k wished.drawn own in
+        let streamed : e.wish ≡ wish.Stream coming = subst (IsPast e) stage_is (had_past flow is e k own) in
+        let filled : IsFilled e x = record { request_is = own; name_is = one_name e w one; version_is = one_version e w one; coming = coming; received = received; wish_is = streamed; makes = refl } in
+        inr (inr (subst (IsFilled e) (only x d c) filled)))
+        (λ f d e c own. (let same : next ≡ f = cc in subst (λ (g : Flow). IsPast d g.stage) same tt))
+    kept_once flow _ is stage_is = once
+
+    in_fed : (bytes : List ℕ) (flow : Option Flow) → a.flow ≡ flow → IsOnceIn (heard_in s q (λ flow. fed flow bytes) a flow).state
+    in_fed bytes None is = once
+    in_fed bytes (Some flow) is = fed_once bytes flow flow.stage is refl
+
+    in_given_up : (flow : Option Flow) → IsOnceIn (heard_in s q given_up a flow).state
+    in_given_up None = once
+    in_given_up (Some flow) = given_up_once flow flow.stage
+
+    in_kept : (flow : Option Flow) → a.flow ≡ flow → IsOnceIn (heard_in (record s { draws = fills_in s q flow ++ s.draws }) q finished a flow).state
+    in_kept None is = once
+    in_kept (Some flow) is = kept_once flow flow.stage is refl
+
+  module _ (s : State) (q : ℕ) (sound : IsSound H s) (once : IsOnceIn s) where
+    asked_fed : (bytes : List ℕ) (asked : Option Asked) → numbered s.asked q ≡ asked → IsOnceIn (heard s q (λ flow. fed flow bytes) asked).state
+    asked_fed bytes None at = once
+    asked_fed bytes (Some a) at = in_fed s q a at sound once bytes a.flow refl
+
+    asked_given_up : (asked : Option Asked) → numbered s.asked q ≡ asked → IsOnceIn (heard s q given_up asked).state
+    asked_given_up None at = once
+    asked_given_up (Some a) at = in_given_up s q a at sound once a.flow
+
+    asked_kept : (asked : Option Asked) → numbered s.asked q ≡ asked → IsOnceIn (heard (record s { draws = fills_at s q asked ++ s.draws }) q finished asked).state
+    asked_kept None at = once
+    asked_kept (Some a) at = in_kept s q a at sound once a.flow refl
 
 module _ {H : List ℕ → Type 0} where
   -- a request more has drawn nothing
@@ -227,6 +326,9 @@ module _ {H : List ℕ → Type 0} where
   act_once s (takes_end q) sound once = once
   act_once s (adds name) sound once = once
   act_once s (cuts block) sound once = once
+  act_once s (feeds q bytes) sound once = asked_fed s q sound once bytes (numbered s.asked q) refl
+  act_once s (keeps q) sound once = asked_kept s q sound once (numbered s.asked q) refl
+  act_once s (gives_up q) sound once = asked_given_up s q sound once (numbered s.asked q) refl
 
 pub start_once : IsOnceIn start
 start_once = record { one = λ d e c k same. absurd (none_in d c); past = λ d a f c there is. absurd (none_in d c) }
@@ -238,7 +340,7 @@ module _ {H : List ℕ → Type 0} where
     acts_once s (a ∷ as') lawful fit all sound once =
         acts_once (acted s a).state as' lawful.1 fit.1 (λ x h. all x (inr h)) (act_keeps every s a lawful.0 (fit_in H s.world (acted s a).moves fit.0 (λ x h. all x (inl h))) sound) (act_once s a sound once)
 
-    -- no two draws have one version
+    -- no two writes drew one version
     pub draws_differ : (as' : List Act) → AreLawfulActs start as' → ActsFit start as' → ((x : List ℕ) → ActsHash start as' x → H x) → AreDrawnOnce (after_acts start as').draws
     draws_differ as' lawful fit all d e c k same =
         let both = acts_once start as' lawful fit all start_sound start_once in

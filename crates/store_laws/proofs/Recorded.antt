@@ -12,7 +12,7 @@ use Rattle.store_laws.proofs.Every.{EveryWorld}
 use Rattle.store_laws.proofs.Sound.{IsSound}
 use Rattle.store_laws.proofs.Enders.{wish_writes}
 use Rattle.store_laws.proofs.Starting.{start_sound}
-use Rattle.store_laws.proofs.Once.{IsOnceIn, start_once, acts_once}
+use Rattle.store_laws.proofs.Once.{IsOnceIn, one_version, start_once, acts_once}
 use Rattle.cluster_machine.specs.Hashes.{NoClash as NoTrieClash}
 use Rattle.store_laws.specs.Hashed.{ActsHash}
 
@@ -30,7 +30,7 @@ module _ {H : List ℕ → Type 0} where
           has_begun = is_in s.history had.place _ had.began_at;
           has_finished = is_in s.history end _ (acknowledged_is s.history place d.request end v e).0;
         }) in
-        sym drew.version_is ∙ ap (λ (x : Draw). x.version) (once.one drew.draw d drew.drawn c drew.request_is)
+        sym drew.version_is ∙ one_version drew.draw d (once.one drew.draw d drew.drawn c drew.request_is)
 
     -- a delete that drew a version not below w is recorded so
     deleted_recorded : (j : ℕ) (bucket key : List ℕ) (w : Version) → HasDeleted s j bucket key w → IsDeleted s.history j bucket key w

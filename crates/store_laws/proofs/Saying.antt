@@ -14,6 +14,8 @@ use Rattle.object_schema.specs.Schema.{words}
 use Rattle.wire_messages.specs.declared.phase.PhaseEnd.{PhaseEnd}
 use Rattle.wire_messages.specs.declared.phase.PhaseEnd.TheVariants.{Row as Answered, Window, Kept, Block}
 use Rattle.wire_messages.specs.declared.phase.Phase.TheVariants.{Store}
+use Rattle.cluster_machine.specs.declared.line.Line.TheVariants.{Done, Listed as Shows, Ended as HasEnded}
+use Rattle.cluster_machine.specs.declared.line.EndWord.TheVariants.{Superseded as WasSuperseded}
 use Rattle.cluster_machine.specs.declared.step.Refusal.TheVariants.{NotMember, NoSuchBucket}
 use Rattle.cluster_machine.specs.declared.step.Step.TheVariants as step
 use Rattle.cluster_machine.specs.Layouts.{layouts}
@@ -31,20 +33,20 @@ use Rattle.flow_model.specs.declared.flow.Wish.TheVariants as wish
 use Rattle.flow_model.specs.declared.flow.Aim.{Aim}
 use Rattle.flow_model.specs.declared.flow.Aim.TheVariants as aim
 use Rattle.flow_model.specs.declared.flow.Stage.{Stage}
-use Rattle.flow_model.specs.declared.flow.Stage.TheVariants.{Drawing, Uploading, Completing, Looking, Opening, Gathering, Listing}
+use Rattle.flow_model.specs.declared.flow.Stage.TheVariants.{Drawing, Uploading, Receiving, Aborting, Completing, Looking, Opening, Gathering, Listing}
 use Rattle.flow_model.specs.declared.flow.Flow.{Flow}
 use Rattle.flow_model.specs.declared.flow.FlowStep.{FlowStep}
-use Rattle.flow_model.specs.declared.flow.FlowStep.TheVariants.{More, Wait, End}
-use Rattle.flow_model.specs.declared.flow.FlowEnd.TheVariants.{Stored, Found, Nothing}
+use Rattle.flow_model.specs.declared.flow.FlowStep.TheVariants.{More, Need, Wait, End}
 use Rattle.flow_model.specs.Blocks.{has_piece, is_long}
 use Rattle.flow_model.specs.Flow.{started}
 use Rattle.flow_model.specs.Rows.{uploading, block_rows}
 use Rattle.flow_model.specs.Says.{Said, none, marked, inline, in_blocks, said_by, said_of, Named, unnamed, whole, deleted, named_by, shown_rows}
 use Rattle.flow_model.specs.Next.{drawn, stores, more, completes, writes, uploads, found, reads_on, looked, gathers, opened, lists, goes_on as flow_goes_on, next}
-use Rattle.store_model.specs.Answers.{Entry, with_entry, entries, lines_of, line_of}
+use Rattle.flow_model.specs.Streams.{Step, fed, finished, given_up}
+use Rattle.store_model.specs.Answers.{Entry, with_entry, entries, lines_of, pair, found_line, word_of, lines_of_end}
 use Rattle.store_model.specs.Orders.{buckets_of}
-use Rattle.store_model.specs.Run.{Moving, State, start, Asked, Draw, Outcome, silent, refusal, plainly, effect, doing, are_buckets, phases, opened as opens_request, begins, draws_of, takes, follows, follow, goes_on, delivers, then_drains, drains}
-use Rattle.store_model.specs.Acts.{Act, moves, installs, asks, delivery, drain, forgets, takes as takes_end, adds, cuts, acted, after_acts, AreLawfulActs, ActsFit}
+use Rattle.store_model.specs.Run.{Moving, State, start, Asked, Draw, Outcome, silent, refusal, plainly, effect, doing, are_buckets, phases, opened as opens_request, begins, draws_of, takes, follows, follow, goes_on, delivers, then_drains, drains, hears, heard_in, heard, fills_at}
+use Rattle.store_model.specs.Acts.{Act, moves, installs, asks, delivery, drain, forgets, takes as takes_end, adds, cuts, feeds, keeps, gives_up, acted, after_acts, AreLawfulActs, ActsFit}
 use Rattle.store_model.specs.Written.{lines_told, SaysBytes, SaysSize, IsAsWritten, GivesWhatWasWritten}
 use Rattle.store_laws.proofs.Elements.{none_in, cons_cases, there}
 use Rattle.store_laws.proofs.Every.{EveryWorld}
@@ -71,8 +73,9 @@ use Rattle.store_laws.proofs.Hashing.{FitIn, fit_in, in_parts}
 -- what a request of this kind tells that does this is as was written
 abbrev pub StepSays : List Draw → Kind → FlowStep → Type 0
 StepSays draws k (More flow phase) = ⊤
+StepSays draws k (Need flow wanted) = ⊤
 StepSays draws k (Wait flow) = ⊤
-StepSays draws k (End end) = (q : ℕ) → IsAsWritten draws (line_of q k end)
+StepSays draws k (End end) = (q : ℕ) → Tells draws (lines_of_end q k end)
 
 -- what was read is what this read has to tell of
 abbrev pub MayTell : List Draw → Aim → Version → Meta → List ℕ → Type 0
@@ -102,7 +105,7 @@ module _ (draws : List Draw) where
   blocks_tell (aim.Copy name headers) v meta body h = tt
 
   -- a request without an object, and a write
-  nothing_says : (k : Kind) (q : ℕ) → IsAsWritten draws (line_of q k Nothing)
+  nothing_says : (k : Kind) (q : ℕ) → IsAsWritten draws (Done q (word_of k) None None None)
   nothing_says kind.Put q = tt
   nothing_says kind.Get q = tt
   nothing_says kind.Head q = tt
@@ -110,7 +113,7 @@ module _ (draws : List Draw) where
   nothing_says kind.Copy q = tt
   nothing_says kind.List q = tt
 
-  stored_says : (k : Kind) (v : Version) (meta : Option Meta) → IsTrue (is_write k) → (q : ℕ) → IsAsWritten draws (line_of q k (Stored v meta))
+  stored_says : (k : Kind) (v : Version) (meta : Option Meta) → IsTrue (is_write k) → (q : ℕ) → IsAsWritten draws (Done q (word_of k) (Some (pair v)) None None)
   stored_says kind.Put v meta h q = tt
   stored_says kind.Get v meta h q = cc
   stored_says kind.Head v meta h q = cc
@@ -140,8 +143,8 @@ module _ (draws : List Draw) where
 
   module _ (id block : ℕ) (a : Asked) where
     found_says : (aim : Aim) (v : Version) (meta : Meta) (body : List ℕ) → IsAimOf a aim → MayTell draws aim v meta body → StepSays draws a.kind (found id block aim v meta body)
-    found_says aim.Get v meta body is h = λ q. subst (λ (k : Kind). IsAsWritten draws (line_of q k (Found v meta body))) (sym is) h
-    found_says aim.Head v meta body is h = λ q. subst (λ (k : Kind). IsAsWritten draws (line_of q k (Found v meta []))) (sym is) h
+    found_says aim.Get v meta body is h = λ q. tells_one draws (found_line q a.kind v meta body) (subst (λ (k : Kind). IsAsWritten draws (found_line q k v meta body)) (sym is) h)
+    found_says aim.Head v meta body is h = λ q. tells_one draws (found_line q a.kind v meta []) (subst (λ (k : Kind). IsAsWritten draws (found_line q k v meta [])) (sym is) h)
     found_says (aim.Copy name headers) v meta body is h = tt
 
     gathers_says : (aim : Aim) (v : Version) (meta : Meta) (left : List BlockRef) (body : List ℕ) → IsAimOf a aim → IsInBlocks draws v meta → StepSays draws a.kind (gathers id block aim v meta left body)
@@ -151,7 +154,7 @@ module _ (draws : List Draw) where
     opened_says : (aim : Aim) (v : Version) (meta : Meta) (named : Named) → IsAimOf a aim → IsInBlocks draws v meta → StepSays draws a.kind (opened id block aim v meta named)
     opened_says aim v meta unnamed is h = tt
     opened_says aim v meta (whole blocks) is h = gathers_says aim v meta blocks [] is h
-    opened_says aim v meta deleted is h = λ q. tt
+    opened_says aim v meta deleted is h = λ q. tells_one draws (HasEnded q WasSuperseded) tt
 
     reads_on_says : (aim : Aim) (v : Version) (meta : Meta) → IsAimOf a aim → IsInBlocks draws v meta → StepSays draws a.kind (reads_on id block aim v meta)
     reads_on_says aim.Get v meta is h = tt
@@ -159,17 +162,19 @@ module _ (draws : List Draw) where
     reads_on_says (aim.Copy name headers) v meta is h = tt
 
     looked_says : (aim : Aim) (said : Said) → IsAimOf a aim → SaysWritten draws said → StepSays draws a.kind (looked id block aim said)
-    looked_says aim none is h = nothing_says a.kind
-    looked_says aim (marked v) is h = nothing_says a.kind
+    looked_says aim none is h = λ q. tells_one draws (Done q (word_of a.kind) None None None) (nothing_says a.kind q)
+    looked_says aim (marked v) is h = λ q. tells_one draws (Done q (word_of a.kind) None None None) (nothing_says a.kind q)
     looked_says aim (inline v meta body) is h = found_says aim v meta body is (row_tells aim v meta body h)
     looked_says aim (in_blocks v meta first) is h = reads_on_says aim v meta is h
 
     completes_says : (name : Name) (v : Version) (w : Wish) → StepSays draws a.kind (completes id block name v w)
     completes_says name v wish.Marker = tt
+    completes_says name v (wish.Stream coming) = tt
     completes_says name v (wish.Content c) = tt
 
     writes_says : (name : Name) (v : Version) (w : Wish) → StepSays draws a.kind (writes id block name v w)
     writes_says name v wish.Marker = tt
+    writes_says name v (wish.Stream coming) = tt
     writes_says name v (wish.Content c) =
         elim (is_long c.body) as (λ b. StepSays draws a.kind (elim b as (λ b. FlowStep) [ true ↦ more id block (Uploading name v c 0) (stores (uploading name v)) | false ↦ completes id block name v (wish.Content c) ])) [
           | true ↦ tt
@@ -184,7 +189,7 @@ module _ (draws : List Draw) where
         ]
 
     lists_says : (bucket prefix : List ℕ) (rows : List ObjectRow) (reach : Option (List ℕ)) → ((r : ObjectRow) → Contains rows r → SaysWritten draws (said_by r)) → StepSays draws a.kind (lists id block bucket prefix rows reach)
-    lists_says bucket prefix rows None h = λ q. rows_tell rows h
+    lists_says bucket prefix rows None h = λ q. tells_one draws (Shows q (lines_of (entries rows))) (rows_tell rows h)
     lists_says bucket prefix rows (Some after) h = tt
 
 -- ---- a phase ended
@@ -210,7 +215,9 @@ module _ {H : List ℕ → Type 0} where
         StepSays s.draws a.kind (flow_goes_on id block stage end now)
     stage_says id block (Drawing name w) (Answered value) now flow_is stage end = writes_says s.draws id block a name (drawn id value now) w
     stage_says id block (Uploading name v c stored) Kept now flow_is stage end = uploads_says s.draws id block a name v c stored
-    stage_says id block (Completing v meta) Kept now flow_is stage end = stored_says s.draws a.kind v meta stage
+    stage_says id block (Receiving name v coming received) Kept now flow_is stage end = tt
+    stage_says id block (Aborting v) Kept now flow_is stage end = λ p. tells_none s.draws
+    stage_says id block (Completing v meta) Kept now flow_is stage end = λ p. tells_one s.draws (Done p (word_of a.kind) (Some (pair v)) None None) (stored_says s.draws a.kind v meta stage p)
     stage_says id block (Looking name aim) (Answered value) now flow_is stage end = looked_says s.draws id block a aim (said_of value) stage.0 (read_written every s q sound value end)
     stage_says id block (Opening v meta aim) (Answered value) now flow_is stage end = opened_says s.draws id block a aim v meta (named_by value meta.size) stage.0 stage.2
     stage_says id block (Gathering v meta aim left body) (Block bytes) now flow_is stage end = gathers_says s.draws id block a aim v meta left (body ++ bytes) stage.0 stage.2
@@ -227,10 +234,12 @@ HasTold o = Tells o.state.draws o.lines
 takes_tells : (s : State) (q : ℕ) (a : Asked) (ds : List Draw) (st : FlowStep) → StepSays s.draws a.kind st → HasTold (takes s q a ds st)
 takes_tells s q a ds (More flow phase) h = step_tells (ds ++ s.draws) s.world (phases q phase).step (phases q phase).choice
 takes_tells s q a ds (Wait flow) h = tells_none s.draws
-takes_tells s q a ds (End end) h = tells_one s.draws (line_of q a.kind end) (h q)
+takes_tells s q a ds (Need flow wanted) h = tells_none s.draws
+takes_tells s q a ds (End end) h = h q
 
 takes_grows : (s : State) (q : ℕ) (a : Asked) (ds : List Draw) (st : FlowStep) → Grows s.draws (takes s q a ds st).state.draws
 takes_grows s q a ds (More flow phase) = λ d c. Contains-append_right ds s.draws d c
+takes_grows s q a ds (Need flow wanted) = λ d c. c
 takes_grows s q a ds (Wait flow) = λ d c. c
 takes_grows s q a ds (End end) = λ d c. c
 
@@ -268,6 +277,31 @@ begins_grows s n o =
       | false ↦ λ d c. c
     ]
 
+-- the client of a streamed upload was heard
+hears_grows : (s : State) (q : ℕ) (a : Asked) (next : Step) → Grows s.draws (hears s q a next).state.draws
+hears_grows s q a None = λ d c. c
+hears_grows s q a (Some next) = λ d c. c
+
+in_grows : (s : State) (q : ℕ) (says : Flow → Step) (a : Asked) (flow : Option Flow) → Grows s.draws (heard_in s q says a flow).state.draws
+in_grows s q says a None = λ d c. c
+in_grows s q says a (Some flow) = hears_grows s q a (says flow)
+
+heard_grows : (s : State) (q : ℕ) (says : Flow → Step) (asked : Option Asked) → Grows s.draws (heard s q says asked).state.draws
+heard_grows s q says None = λ d c. c
+heard_grows s q says (Some a) = in_grows s q says a a.flow
+
+hears_tells : (s : State) (q : ℕ) (a : Asked) (next : Step) → HasTold (hears s q a next)
+hears_tells s q a None = tells_none s.draws
+hears_tells s q a (Some next) = step_tells s.draws s.world (phases q next.1).step (phases q next.1).choice
+
+in_tells : (s : State) (q : ℕ) (says : Flow → Step) (a : Asked) (flow : Option Flow) → HasTold (heard_in s q says a flow)
+in_tells s q says a None = tells_none s.draws
+in_tells s q says a (Some flow) = hears_tells s q a (says flow)
+
+heard_tells : (s : State) (q : ℕ) (says : Flow → Step) (asked : Option Asked) → HasTold (heard s q says asked)
+heard_tells s q says None = tells_none s.draws
+heard_tells s q says (Some a) = in_tells s q says a a.flow
+
 -- what was drawn before an act is drawn after it
 act_grows : (s : State) (a : Act) → Grows s.draws (acted s a).state.draws
 act_grows s (moves m) = λ d c. c
@@ -279,6 +313,11 @@ act_grows s forgets = λ d c. c
 act_grows s (takes_end q) = λ d c. c
 act_grows s (adds name) = λ d c. c
 act_grows s (cuts block) = λ d c. c
+act_grows s (feeds q bytes) = heard_grows s q (λ flow. fed flow bytes) (numbered s.asked q)
+act_grows s (keeps q) = λ d c.
+    let ds : List Draw = fills_at s q (numbered s.asked q) in
+    heard_grows (record s { draws = ds ++ s.draws }) q finished (numbered s.asked q) d (Contains-append_right ds s.draws d c)
+act_grows s (gives_up q) = heard_grows s q given_up (numbered s.asked q)
 
 pub acts_grow : (s : State) (as' : List Act) → Grows s.draws (after_acts s as').draws
 acts_grow s [] = λ d c. c
@@ -348,6 +387,9 @@ module _ {H : List ℕ → Type 0} where
     act_tells s (takes_end q) fits sound = tells_none s.draws
     act_tells s (adds name) fits sound = tells_none s.draws
     act_tells s (cuts block) fits sound = tells_none s.draws
+    act_tells s (feeds q bytes) fits sound = heard_tells s q (λ flow. fed flow bytes) (numbered s.asked q)
+    act_tells s (keeps q) fits sound = heard_tells (record s { draws = fills_at s q (numbered s.asked q) ++ s.draws }) q finished (numbered s.asked q)
+    act_tells s (gives_up q) fits sound = heard_tells s q given_up (numbered s.asked q)
 
     acts_tell : (s : State) (as' : List Act) → AreLawfulActs s as' → ActsFit s as' → ((x : List ℕ) → ActsHash s as' x → H x) → IsSound H s → Tells (after_acts s as').draws (lines_told s as')
     acts_tell s [] lawful fit all sound = tells_none s.draws

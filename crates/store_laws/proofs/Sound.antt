@@ -27,7 +27,7 @@ use Rattle.flow_model.specs.declared.flow.Wish.TheVariants as wish
 use Rattle.flow_model.specs.declared.flow.Aim.{Aim}
 use Rattle.flow_model.specs.declared.flow.Aim.TheVariants as aim
 use Rattle.flow_model.specs.declared.flow.Stage.{Stage}
-use Rattle.flow_model.specs.declared.flow.Stage.TheVariants.{Drawing, Uploading, Completing, Looking, Opening, Gathering, Listing}
+use Rattle.flow_model.specs.declared.flow.Stage.TheVariants.{Drawing, Uploading, Receiving, Needing, Aborting, Completing, Looking, Opening, Gathering, Listing}
 use Rattle.flow_model.specs.declared.flow.Flow.{Flow}
 use Rattle.flow_model.specs.Rows.{row_key, complete}
 use Rattle.store_model.specs.Run.{World, Moving, Asked, Draw, Saw, State}
@@ -93,6 +93,7 @@ pub record IsTold (buckets : List (List ℕ)) (asked : List Asked) (history : Li
 -- requests of this kind may wish so: a delete makes a marker, a put or copy gives bytes
 abbrev pub IsWishOf : Kind → Wish → Type 0
 IsWishOf kind wish.Marker = IsTrue (is_delete kind)
+IsWishOf kind (wish.Stream coming) = IsTrue (is_source kind)
 IsWishOf kind (wish.Content c) = IsTrue (is_source kind)
 
 -- a write that had begun drew this, for an object in one of the buckets
@@ -177,13 +178,19 @@ pub record AskedAt (asked : List Asked) (n q : ℕ) : Type 0 where
   pub is_there : numbered asked q ≡ Some one
   pub node_is : one.node ≡ n
 
--- a request at this node waits so
+-- a request that waits so waits for the end of a phase, and not for its client
+abbrev pub HasPhase : Stage → Type 0
+HasPhase (Needing name version coming received) = ⊥
+HasPhase stage = ⊤
+
+-- a request at this node waits so, for the end of a phase
 pub record WaitsAt (asked : List Asked) (n q : ℕ) : Type 0 where
   pub one : Asked
   pub is_there : numbered asked q ≡ Some one
   pub node_is : one.node ≡ n
   pub flow : Flow
   pub flow_is : one.flow ≡ Some flow
+  pub has_phase : HasPhase flow.stage
 
 -- all that was acknowledged before request q began is among these
 abbrev pub HasBefore : List Record → ℕ → List AnyRow → Type 0
@@ -305,6 +312,9 @@ module _ (H : List ℕ → Type 0) where
   abbrev pub IsStage : List Draw → List Record → ℕ → Asked → Stage → Type 0
   IsStage draws history q a (Drawing name wish) = (name ≡ a.name) × IsWishOf a.kind wish
   IsStage draws history q a (Uploading name version content stored) = IsTrue (is_write a.kind) × HasWished draws q name version (wish.Content content)
+  IsStage draws history q a (Receiving name version coming received) = IsTrue (is_write a.kind) × HasWished draws q name version (wish.Stream coming)
+  IsStage draws history q a (Needing name version coming received) = IsTrue (is_write a.kind) × HasWished draws q name version (wish.Stream coming)
+  IsStage draws history q a (Aborting version) = IsTrue (is_write a.kind)
   IsStage draws history q a (Completing version meta) = IsTrue (is_write a.kind)
   IsStage draws history q a (Looking name aim) = IsAimOf a aim × LooksAt a aim name
   IsStage draws history q a (Opening version meta aim) = IsAimOf a aim × HasSeen draws history q a aim version × IsInBlocks draws version meta

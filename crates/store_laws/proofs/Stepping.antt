@@ -12,7 +12,7 @@ use Rattle.crdt_rows.specs.declared.any_row.AnyRow.{AnyRow}
 use Rattle.crdt_rows.specs.AnyRow.{any_join}
 use Rattle.layout_roles.specs.declared.layout.Layout.{Layout}
 use Rattle.object_schema.specs.Schema.{words}
-use Rattle.cluster_machine.specs.Node.{Present, resting, asking, scanning, storing, fetching, Call, Node, Ended}
+use Rattle.cluster_machine.specs.Node.{resting, Call, Node, Ended}
 use Rattle.cluster_machine.specs.World.{Request}
 use Rattle.quorum_model.specs.Quorum.{is_among}
 use Rattle.view_model.specs.Layouts.{reading}
@@ -26,11 +26,11 @@ use Rattle.cluster_machine.proofs.Closing.{length_shut}
 use Rattle.store_model.specs.Run.{State, Moving, Asked, doing, effect}
 use Rattle.machine_origins.proofs.Calm.{IsCalm}
 use Rattle.store_laws.proofs.Good.{IsGood}
-use Rattle.store_laws.proofs.Sound.{StoresGood, IsReached, IsProper, AreProper, WaitsAt, IsPresent, ArePresent, IsSound}
+use Rattle.store_laws.proofs.Sound.{StoresGood, IsReached, IsProper, AreProper, WaitsAt, ArePresent, IsSound}
 use Rattle.store_laws.proofs.Freshness.{fresh_later}
 use Rattle.store_laws.proofs.Grown.{kept_later}
 use Rattle.store_laws.proofs.Reached.{reached_step, reached_installing}
-use Rattle.store_laws.proofs.Ends.{IsEnd, present_continues, ends_are}
+use Rattle.store_laws.proofs.Ends.{IsEnd, rests_or_waits, present_continues, ends_are}
 use Rattle.store_laws.proofs.Hashing.{HashesIn}
 
 -- what is added fits the requests, and none opens
@@ -107,13 +107,6 @@ module _ {H : List ℕ → Type 0} where
       keeps = calm_both.1;
     }
 
-    rests_or_waits : (n q : ℕ) (p : Present AnyRow) → IsPresent H s.asked s.draws s.history s.saw n q p → (p ≡ resting) ⊎ WaitsAt s.asked n q
-    rests_or_waits n q resting h = inl refl
-    rests_or_waits n q (asking question answers) h = inr h.waits
-    rests_or_waits n q (scanning scan answers) h = inr h.waits
-    rests_or_waits n q (storing rows slots) h = inr h.waits
-    rests_or_waits n q (fetching hash) h = inr h
-
     one_node : (n m q : ℕ) → WaitsAt s.asked n q → WaitsAt s.asked m q → n ≡ m
     one_node n m q w v =
         let some_is : Some w.one ≡ Some v.one = sym w.is_there ∙ v.is_there in
@@ -128,7 +121,7 @@ module _ {H : List ℕ → Type 0} where
     rests_now q done n c has is =
         elim (n == calm.node) as (λ b. (n == calm.node) ≡ b → c.present ≡ resting) [
           | true ↦ (λ t. done.1 c (subst (λ m. Has (changed e.nodes s.world.nodes m).calls c) (eqb-true n calm.node t) has) is)
-          | false ↦ (λ f. elim (rests_or_waits n c.request c.present (calm_fine.presents n c has)) [
+          | false ↦ (λ f. elim (rests_or_waits H s.asked s.draws s.history s.saw n c.request c.present (calm_fine.presents n c has)) [
             | inl rests ↦ rests
             | inr waits ↦ absurd (eqb-false n calm.node f (one_node n calm.node q (subst (WaitsAt s.asked n) is waits) done.0))
           ])

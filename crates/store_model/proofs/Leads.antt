@@ -10,7 +10,7 @@ use Rattle.cluster_machine.specs.World.{numbered, clock, undelivered}
 use Rattle.cluster_machine.specs.Worlds.{next, run}
 use Rattle.flow_model.specs.declared.flow.Flow.{Flow}
 use Rattle.flow_model.specs.declared.flow.FlowStep.{FlowStep}
-use Rattle.flow_model.specs.declared.flow.FlowStep.TheVariants.{More, Wait, End}
+use Rattle.flow_model.specs.declared.flow.FlowStep.TheVariants.{More, Need, Wait, End}
 use Rattle.flow_model.specs.Next as flow
 use Rattle.store_model.specs.Run.{World, Moving, Asked, Draw, State, Outcome, silent, plainly, effect, doing, takes, draws_of, follows, follow, goes_on, delivers, then_drains, drains}
 
@@ -20,6 +20,7 @@ Leads s o = run any_join words s.world o.moves ≡ o.state.world
 module _ (s : State) (q : ℕ) where
   takes_leads : (m : Asked) (draws : List Draw) (does : FlowStep) → Leads s (takes s q m draws does)
   takes_leads m draws (More f phase) = refl
+  takes_leads m draws (Need f wanted) = refl
   takes_leads m draws (Wait f) = refl
   takes_leads m draws (End end) = refl
 

@@ -1,5 +1,5 @@
 -- What may happen in a run, and the run of a list of it.
-use Rattle.std.specs.Prelude.{◌≡◌, ◌≤◌, ◌==◌, ◌^◌, ◌-◌, ℕ, ⊤, cond, length, Option, Some, None, List, [], ◌∷◌, ◌++◌, map}
+use Rattle.std.specs.Prelude.{◌≡◌, ◌≤◌, ◌==◌, ◌^◌, ◌-◌, ℕ, ⊤, cond, length, Option, Some, None, IsSome, List, [], ◌∷◌, ◌++◌, map}
 use Rattle.crdt_rows.specs.declared.any_row.AnyRow.{AnyRow}
 use Rattle.crdt_rows.specs.AnyRow.{any_join}
 use Rattle.layout_roles.specs.declared.layout.Layout.{Layout}
@@ -15,9 +15,10 @@ use Rattle.history_model.specs.declared.record.Record.TheVariants.{Ended}
 use Rattle.flow_model.specs.declared.order.Order.{Order}
 use Rattle.flow_model.specs.declared.order.Order.TheVariants as order
 use Rattle.flow_model.specs.declared.flow.FlowEnd.{FlowEnd}
-use Rattle.store_model.specs.Run.{Moving, State, Outcome, silent, effect, doing, begins, delivers, drains}
+use Rattle.flow_model.specs.Blocks.{inline_limit}
+use Rattle.store_model.specs.Run.{Moving, State, Outcome, silent, effect, doing, begins, delivers, drains, need_at, feeding, keeping, giving_up}
 
--- a step of the world, a first layout put into the views of its nodes, a request at a node, a delivery, deliveries up to a number, that delivered messages are forgotten, that the end of a request is taken, a bucket, or a size of blocks
+-- a step of the world, a first layout put into the views of its nodes, a request at a node, a delivery, deliveries up to a number, that delivered messages are forgotten, that the end of a request is taken, a bucket, a size of blocks, or what the client of a streamed upload does: a block comes, it is kept, or it is given up
 pub data Act : Type 0 where
   moves : Moving → Act
   installs : Layout → Act
@@ -28,6 +29,9 @@ pub data Act : Type 0 where
   takes : ℕ → Act
   adds : List ℕ → Act
   cuts : ℕ → Act
+  feeds : ℕ → List ℕ → Act
+  keeps : ℕ → Act
+  gives_up : ℕ → Act
 
 -- what the history has of requests that end by a step of the world
 abbrev pub endings : Step AnyRow → Effect AnyRow → List Record
@@ -66,6 +70,9 @@ acted s forgets = silent (record s { world = forget_delivered s.world })
 acted s (takes q) = silent (record s { ends = without_end s.ends q })
 acted s (adds name) = silent (record s { buckets = s.buckets ++ name ∷ [] })
 acted s (cuts block) = silent (record s { block = block })
+acted s (feeds q bytes) = feeding s q bytes
+acted s (keeps q) = keeping s q
+acted s (gives_up q) = giving_up s q
 
 -- the state after acts in order
 abbrev pub after_acts : State → List Act → State
@@ -80,18 +87,22 @@ IsOuter (Phase q phase) = ⊥
 IsOuter (Close q) = ⊥
 IsOuter st = ⊤
 
--- an object that is written has a key of a byte at least
+-- an object that is written has a key of a byte at least, and one that is streamed bytes that are kept in blocks
 abbrev pub HasKey : Order → Type 0
 HasKey (order.Put bucket key body headers) = 1 ≤ length key
+HasKey (order.Stream bucket key announced headers) = (1 ≤ length key) × (inline_limit ≤ announced)
 HasKey (order.Delete bucket key) = 1 ≤ length key
 HasKey (order.Copy from_bucket from_key bucket key headers) = 1 ≤ length key
 HasKey other = ⊤
 
--- the act may happen: a step of the world meets its conditions and is given what is lawful, a layout that is installed is a greatest one of version 1, before any version was applied, and what is written has a key
+-- the act may happen: a step of the world meets its conditions and is given what is lawful, a layout that is installed is a greatest one of version 1, before any version was applied, what is written has a key, and the client of a streamed upload does what this needs, or gives it up while it needs something
 abbrev pub IsLawfulAct : State → Act → Type 0
 IsLawfulAct s (moves m) = IsOuter m.step × IsMeant m.step × IsLawful s.world m
 IsLawfulAct s (installs first) = IsFirst first × (s.world.applied ≡ 0)
 IsLawfulAct s (asks n order) = HasKey order
+IsLawfulAct s (feeds q bytes) = (need_at s q ≡ Some (length bytes)) × (1 ≤ length bytes)
+IsLawfulAct s (keeps q) = need_at s q ≡ Some 0
+IsLawfulAct s (gives_up q) = IsSome (need_at s q)
 IsLawfulAct s a = ⊤
 
 -- each of these acts may happen when it does

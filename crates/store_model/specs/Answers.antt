@@ -17,7 +17,7 @@ use Rattle.history_model.specs.declared.record.Cause.TheVariants as cause
 use Rattle.history_model.specs.declared.record.Record.{Record}
 use Rattle.history_model.specs.declared.record.Record.TheVariants.{Finished, Ended}
 use Rattle.flow_model.specs.declared.flow.FlowEnd.{FlowEnd}
-use Rattle.flow_model.specs.declared.flow.FlowEnd.TheVariants.{Stored, Found, Nothing, Listed, Superseded}
+use Rattle.flow_model.specs.declared.flow.FlowEnd.TheVariants.{Stored, Found, Nothing, Listed, Superseded, Aborted}
 use Rattle.flow_model.specs.Says.{Said, none, marked, inline, in_blocks, said_by}
 
 -- a key that a list shows, with what is said of its object
@@ -55,6 +55,7 @@ record_of q (Found version meta body) = Finished q (answer.Version version)
 record_of q Nothing = Finished q answer.None
 record_of q (Listed rows) = Finished q (answer.Listed (versions_of (entries rows)))
 record_of q (Superseded id) = Ended q (cause.Superseded id)
+record_of q Aborted = Ended q cause.Aborted
 
 -- a version as two numbers
 abbrev pub pair : Version → ℕ × ℕ
@@ -74,10 +75,11 @@ word_of kind.Delete = word.Delete
 word_of kind.Copy = word.Copy
 word_of kind.List = word.Get
 
--- the line of a request of this kind that ended so
-abbrev pub line_of : ℕ → Kind → FlowEnd → Line Applied
-line_of q kind (Stored version meta) = Done q (word_of kind) (Some (pair version)) None None
-line_of q kind (Found version meta body) = found_line q kind version meta body
-line_of q kind Nothing = Done q (word_of kind) None None None
-line_of q kind (Listed rows) = Shown q (lines_of (entries rows))
-line_of q kind (Superseded id) = HasEnded q WasSuperseded
+-- the line of a request of this kind that ended so; no schedule gives an upload up, so of that end there is none
+abbrev pub lines_of_end : ℕ → Kind → FlowEnd → List (Line Applied)
+lines_of_end q kind (Stored version meta) = Done q (word_of kind) (Some (pair version)) None None ∷ []
+lines_of_end q kind (Found version meta body) = found_line q kind version meta body ∷ []
+lines_of_end q kind Nothing = Done q (word_of kind) None None None ∷ []
+lines_of_end q kind (Listed rows) = Shown q (lines_of (entries rows)) ∷ []
+lines_of_end q kind (Superseded id) = HasEnded q WasSuperseded ∷ []
+lines_of_end q kind Aborted = []

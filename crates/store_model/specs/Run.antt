@@ -1,5 +1,6 @@
 -- The state of a run, and what requests do in it.
 use Rattle.std.specs.Prelude.{ℕ, zero, suc, ◌-◌, Bool, true, false, ◌&&◌, ◌||◌, nat_eq, if◌then◌else◌, Option, Some, None, List, [], ◌∷◌, ◌++◌, length, slice_set}
+use Rattle.std.specs.Option.{option_and_then, option_map_or}
 use Rattle.std.specs.Cmp.Lexicographic.{pointwise}
 use Rattle.layout_roles.specs.declared.cut.Cut.{Cut}
 use Rattle.crdt_rows.specs.declared.version.Version.{Version}
@@ -28,16 +29,19 @@ use Rattle.history_model.specs.declared.record.Record.TheVariants.{Began}
 use Rattle.flow_model.specs.declared.order.Order.{Order}
 use Rattle.flow_model.specs.declared.flow.Name.{Name}
 use Rattle.flow_model.specs.declared.flow.Wish.{Wish}
+use Rattle.flow_model.specs.declared.flow.Wish.TheVariants as wish
 use Rattle.flow_model.specs.declared.flow.Stage.{Stage}
-use Rattle.flow_model.specs.declared.flow.Stage.TheVariants.{Drawing}
+use Rattle.flow_model.specs.declared.flow.Stage.TheVariants.{Drawing, Needing}
 use Rattle.flow_model.specs.declared.flow.Flow.{Flow}
 use Rattle.flow_model.specs.declared.flow.FlowStep.{FlowStep}
-use Rattle.flow_model.specs.declared.flow.FlowStep.TheVariants.{More, Wait, End}
+use Rattle.flow_model.specs.declared.flow.FlowStep.TheVariants.{More, Need, Wait, End}
 use Rattle.flow_model.specs.declared.flow.FlowEnd.{FlowEnd}
+use Rattle.flow_model.specs.Rows.{content_of}
 use Rattle.flow_model.specs.Flow.{started}
 use Rattle.flow_model.specs.Next.{drawn, next}
+use Rattle.flow_model.specs.Streams as stream
 use Rattle.store_model.specs.Orders.{kind_of, name_of, buckets_of}
-use Rattle.store_model.specs.Answers.{record_of, line_of}
+use Rattle.store_model.specs.Answers.{record_of, lines_of_end}
 
 -- worlds of the machine over the rows of the object store
 abbrev pub World : Type 0
@@ -54,7 +58,7 @@ pub record Asked : Type 0 where
   pub name : Name
   pub flow : Option Flow
 
--- a write drew its version, to make this of its object, in blocks of this size where it is long, when the history had so many records
+-- a write drew its version, to make this of its object, in blocks of this size where it is long, when the history had so many records; a streamed put did for the stream, and once all its bytes had come and were to be kept, for these
 pub record Draw : Type 0 where
   pub request : ℕ
   pub name : Name
@@ -194,12 +198,13 @@ finishes s q asked end = record {
   new_versions = [];
   refused = None;
   words = Empty;
-  lines = line_of q asked.kind end ∷ [];
+  lines = lines_of_end q asked.kind end;
 }
 
 -- a request does what its flow says
 abbrev pub takes : State → ℕ → Asked → List Draw → FlowStep → Outcome
 takes s q asked draws (More flow phase) = goes s q asked draws flow phase
+takes s q asked draws (Need flow wanted) = silent (record s { asked = set_flow s q asked (Some flow) })
 takes s q asked draws (Wait flow) = silent (record s { asked = set_flow s q asked (Some flow) })
 takes s q asked draws (End end) = finishes s q asked end
 
@@ -241,3 +246,58 @@ drains (suc n) s = elim (undelivered s.world) as (λ o. Outcome) [
   | None ↦ silent s
   | Some m ↦ let o = delivers s m in then_drains o (drains n o.state)
 ]
+
+-- ---- streamed uploads
+
+-- the request is open
+abbrev pub is_open_at : World → ℕ → Bool
+is_open_at w q = option_map_or (λ r. r.is_open) (numbered w.requests q) false
+
+-- what a request needs of its client that is asked so
+abbrev pub needed : Option Asked → Option ℕ
+needed asked = option_and_then (λ (a : Asked). option_and_then stream.need_of a.flow) asked
+
+-- what request q needs of its client: a block of so many bytes, or 0, to be told whether it is kept; nothing unless it is open
+abbrev pub need_at : State → ℕ → Option ℕ
+need_at s q = if is_open_at s.world q then needed (numbered s.asked q) else None
+
+-- a request whose client was heard begins its next phase, where there is one
+abbrev pub hears : State → ℕ → Asked → stream.Step → Outcome
+hears s q asked None = silent s
+hears s q asked (Some next) = goes s q asked [] next.0 next.1
+
+-- what a request does, by what its flow says, once its client was heard
+abbrev pub heard_in : State → ℕ → (Flow → stream.Step) → Asked → Option Flow → Outcome
+heard_in s q says asked None = silent s
+heard_in s q says asked (Some flow) = hears s q asked (says flow)
+
+-- the same, of a request that may never have been asked for
+abbrev pub heard : State → ℕ → (Flow → stream.Step) → Option Asked → Outcome
+heard s q says None = silent s
+heard s q says (Some asked) = heard_in s q says asked asked.flow
+
+-- request q goes on with a block that has come
+abbrev pub feeding : State → ℕ → List ℕ → Outcome
+feeding s q bytes = heard s q (λ flow. stream.fed flow bytes) (numbered s.asked q)
+
+-- request q is given up
+abbrev pub giving_up : State → ℕ → Outcome
+giving_up s q = heard s q stream.given_up (numbered s.asked q)
+
+-- the draws of a request that waits so when it is to be kept: a streamed upload makes its object of what it has received
+abbrev pub fills_of : State → ℕ → ℕ → Stage → List Draw
+fills_of s q block (Needing name version coming received) =
+    record { request = q; name = name; version = version; wish = wish.Content (content_of coming received); block = block; moment = length s.history } ∷ []
+fills_of s q block stage = []
+
+abbrev pub fills_in : State → ℕ → Option Flow → List Draw
+fills_in s q None = []
+fills_in s q (Some flow) = fills_of s q flow.block flow.stage
+
+abbrev pub fills_at : State → ℕ → Option Asked → List Draw
+fills_at s q None = []
+fills_at s q (Some asked) = fills_in s q asked.flow
+
+-- request q is kept
+abbrev pub keeping : State → ℕ → Outcome
+keeping s q = heard (record s { draws = fills_at s q (numbered s.asked q) ++ s.draws }) q stream.finished (numbered s.asked q)

@@ -1,5 +1,5 @@
 -- What gets, heads and lists tell of versions' bytes.
-use Rattle.std.specs.Prelude.{◌≡◌, ℕ, false, Option, Some, List, [], ◌∷◌, ◌++◌, length, ⊤}
+use Rattle.std.specs.Prelude.{◌≡◌, ◌⊎◌, ℕ, false, Option, Some, List, [], ◌∷◌, ◌++◌, length, ⊤}
 use Rattle.std.specs.List.{Contains}
 use Rattle.md5.specs.Md5.{md5}
 use Rattle.crdt_rows.specs.declared.version.Version.{Version}
@@ -7,8 +7,10 @@ use Rattle.cluster_machine.specs.declared.applied.Applied.{Applied}
 use Rattle.cluster_machine.specs.declared.line.Line.{Line}
 use Rattle.cluster_machine.specs.declared.line.Line.TheVariants.{Done, Listed}
 use Rattle.cluster_machine.specs.declared.line.DoneWord.TheVariants as word
+use Rattle.flow_model.specs.declared.flow.Coming.{Coming}
 use Rattle.flow_model.specs.declared.flow.Content.{Content}
 use Rattle.flow_model.specs.declared.flow.Wish.TheVariants as wish
+use Rattle.flow_model.specs.Rows.{content_of}
 use Rattle.flow_model.specs.Blocks.{is_long}
 use Rattle.store_model.specs.Run.{State, start, Draw}
 use Rattle.store_model.specs.Acts.{Act, acted, after_acts}
@@ -25,9 +27,23 @@ pub record IsWritten (draws : List Draw) (version : Version) (content : Content)
   pub version_is : draw.version ≡ version
   pub wish_is : draw.wish ≡ wish.Content content
 
+-- a write drew its version for a stream, and makes its object of these bytes, which have come
+pub record IsFilled (stream full : Draw) : Type 0 where
+  pub request_is : stream.request ≡ full.request
+  pub name_is : stream.name ≡ full.name
+  pub version_is : stream.version ≡ full.version
+  pub coming : Coming
+  pub received : List ℕ
+  pub wish_is : stream.wish ≡ wish.Stream coming
+  pub makes : full.wish ≡ wish.Content (content_of coming received)
+
+-- two draws are of one write: they are the same, or the one is of a stream and the other of the bytes that came in it
+abbrev pub IsOneWrite : Draw → Draw → Type 0
+IsOneWrite d e = (d ≡ e) ⊎ IsFilled d e ⊎ IsFilled e d
+
 -- no two writes drew one version
 abbrev pub AreDrawnOnce : List Draw → Type 0
-AreDrawnOnce draws = (d e : Draw) → Contains draws d → Contains draws e → d.version ≡ e.version → d ≡ e
+AreDrawnOnce draws = (d e : Draw) → Contains draws d → Contains draws e → d.version ≡ e.version → IsOneWrite d e
 
 -- size and MD5 are those of the bytes that were written as the version, unless these are kept in blocks
 pub record SaysBytes (draws : List Draw) (version : Version) (size : Option ℕ) (digest : Option (List ℕ)) : Type 0 where

@@ -1,5 +1,6 @@
 //! The cluster, step by step.
-ghost use Rattle.std.specs.Prelude.{◌≡◌, ◌⊎◌, ◌≤◌, ◌+◌, ℕ, leb, not, ◌&&◌, Some, None, [], length, map, option_map, IsTrue, IfOk, IfErr, OnOk, OnErr};
+ghost use Rattle.std.specs.Prelude.{◌≡◌, ◌⊎◌, ◌≤◌, ◌+◌, ℕ, leb, not, ◌&&◌, false, Some, None, [], length, map, option_map, IsTrue, IfOk, IfErr, OnOk, OnErr};
+ghost use Rattle.std.specs.Option.{option_map_or};
 ghost use Rattle.crdt_core.specs.Outcomes.{OnlyWant, WantOr};
 ghost use Rattle.crdt_core.specs.declared.memory.Memory.TheVariants.{Full};
 ghost use Rattle.blake2_hash.specs.Blake2b.{blake2b};
@@ -18,7 +19,7 @@ ghost use Rattle.cluster_machine.specs.declared.step.Words.TheVariants.{Empty};
 ghost use Rattle.cluster_machine.specs.declared.line.Line.TheVariants as line;
 ghost use Rattle.cluster_machine.specs.declared.line.EndWord.TheVariants as word;
 ghost use Rattle.cluster_machine.specs.Step.{told};
-ghost use Rattle.cluster_machine.specs.World.{clock, is_member_at, undelivered, sent_bytes, node_line, forget_delivered, empty};
+ghost use Rattle.cluster_machine.specs.World.{clock, is_member_at, numbered, undelivered, sent_bytes, node_line, forget_delivered, empty};
 ghost use Rattle.cluster_machine.specs.Worlds.{Model, IsMeant, installed};
 ghost use Rattle.world_core.specs.Given.{next_version, Applies};
 ghost use Rattle.world_core.specs.Nodes.{shown_line, newest_in};
@@ -142,6 +143,16 @@ impl<S: Schema> World<S> {
         ensures { (w : Model S.Row) → StandsFor S.Row.join S.words self.now w → result ≡ length w.requests }
     {
         self.requests.len()
+    }
+
+    /// Whether the request with this number is open.
+    pub fn is_open(&self, request: u64) -> bool
+        ensures { (w : Model S.Row) → StandsFor S.Row.join S.words self.now w → result ≡ option_map_or (λ found. found.is_open) (numbered w.requests request) false }
+    {
+        match self.requests.get(request) {
+            Some(found) => found.is_open,
+            None => false,
+        }
     }
 
     /// The staged roles and redundancy.

@@ -7,11 +7,11 @@ use Rattle.store_laws.specs.Hashed.{ActsHash}
 use Rattle.store_laws.proofs.Hashing.{acts_in}
 use Rattle.store_laws.proofs.Every.{every_world}
 use Rattle.store_anchors.proofs.Cited.{Cited}
-use Rattle.store_anchors.proofs.Copied.{copies}
+use Rattle.store_anchors.proofs.Copied.{copies, copies_end}
 use Rattle.store_anchors.proofs.copies_take_what_was_written.Goals as goal
 
-pub returns : goal.returns
-returns c acts lawful fit clear =
+pub returns-clause-takes : goal.returns-clause-takes
+returns-clause-takes c acts lawful fit clear =
     let then = c.every_installed_world_reads_what_was_kept.ensures in
     let cited : Cited (ActsHash start acts) = record {
       every = every_world (ActsHash start acts) c.every_world_has_kept_reads.ensures c.every_world_reads_stored_rows.ensures c.every_world_is_sound.ensures c.every_world_gives_windows.ensures then.kept then.stored then.sound then.windows;
@@ -23,3 +23,17 @@ returns c acts lawful fit clear =
       id = c.version_rows_join_as_facts.ensures.key;
     } in
     copies cited acts lawful (acts_in (ActsHash start acts) start acts fit (λ x h. h))
+
+pub returns-clause-superseded : goal.returns-clause-superseded
+returns-clause-superseded c acts lawful fit clear =
+    let then = c.every_installed_world_reads_what_was_kept.ensures in
+    let cited : Cited (ActsHash start acts) = record {
+      every = every_world (ActsHash start acts) c.every_world_has_kept_reads.ensures c.every_world_reads_stored_rows.ensures c.every_world_is_sound.ensures c.every_world_gives_windows.ensures then.kept then.stored then.sound then.windows;
+      clear = clear;
+      gives = λ digest trio roles moves m is_run brings. c.every_block_phase_gives_its_block.ensures digest any_join words layouts trio roles 256 moves m schema_laws is_run brings;
+      shows = c.rows_show_what_was_stored.ensures;
+      overwritten = c.gone_versions_were_overwritten.ensures;
+      deleted = c.version_rows_join_as_facts.ensures.deleted;
+      id = c.version_rows_join_as_facts.ensures.key;
+    } in
+    copies_end cited acts lawful (acts_in (ActsHash start acts) start acts fit (λ x h. h))

@@ -31,5 +31,5 @@ pieces-preserved g c =
           on_present_then (Takes before (take a place)) W (Takes before after) (g.L.Link.present c.args.link.now) old new
           (λ x y z t w. place_fills {E = Failed} before (take a place) after (take k (drop a place)) into more x y z (place_grows a more k place into c.pieces.invariant.within count) t w)
           c.pieces.invariant.takes c.in-Ok.ensures.reads;
-      stays = record { coming = c.in-Ok.ensures.still_coming ∙ s.coming; past = c.in-Ok.ensures.still_past ∙ s.past; faults = c.in-Ok.ensures.uncounted ∙ s.faults };
+      stays = record { coming = c.in-Ok.ensures.still_coming ∙ s.coming; past = c.in-Ok.ensures.still_past ∙ s.past; open_at = c.in-Ok.ensures.still_open ∙ s.open_at; faults = c.in-Ok.ensures.uncounted ∙ s.faults };
     }

@@ -1,5 +1,6 @@
 use Rattle.std.proofs.Common.{◌≡◌, ◌≤◌, ◌-◌, IsSome, length, take}
-use Rattle.lab_outside.specs.Connection.{OnPresent, Stays}
+use Rattle.lab_outside.specs.Connection.{OnPresent}
+use Rattle.lab_outside.specs.Links.{Stays}
 use Rattle.http_wire.specs.Reading.{Takes}
 use Rattle.http_wire.proofs.body.fill.Given as goal
 
@@ -10,7 +11,7 @@ invariant-pieces g l =
       size : length l.place ≡ length l.fn.place;
       within : l.count ≤ length l.place;
       takes : OnPresent (Takes (take l.fn.count l.fn.place) (take l.count l.place)) (g.L.Link.present l.fn.link) (g.L.Link.present l.link);
-      stays : Stays (g.L.Link.coming l.fn.link) (g.L.Link.coming l.link) (g.L.Link.past l.fn.link) (g.L.Link.past l.link) (g.L.Link.faults l.fn.link) (g.L.Link.faults l.link);
+      stays : Stays g.L.Link l.fn.link l.link;
     }
 
 abbrev pub decreases-pieces : goal.decreases-pieces

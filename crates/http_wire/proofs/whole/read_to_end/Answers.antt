@@ -46,7 +46,7 @@ pieces-init g c =
       present = c.requires;
       searched = search_begins c.args.kept.now.bytes.items c.new-search.result c.new-search.ensures.place c.new-search.ensures.text;
       takes = on_present_same (Takes c.args.kept.now.bytes.items c.args.kept.now.bytes.items) (g.L.Link.present c.args.link.now) (λ a. takes_none c.args.kept.now.bytes.items a);
-      stays = stays_none (g.L.Link.coming c.args.link.now) (g.L.Link.past c.args.link.now) (g.L.Link.faults c.args.link.now);
+      stays = stays_none g.L.Link c.args.link.now;
     }
 
 pub pieces-preserved : goal.pieces-preserved
@@ -62,5 +62,5 @@ pieces-preserved g c =
       takes =
           on_present_then (Takes kept seen) (ReadsPiece seen (Ok n) new) (Takes kept new) (g.L.Link.present c.args.link.now) (g.L.Link.present c.pieces.link) (g.L.Link.present c.read_piece.new.link)
           (λ a b d t u. takes_more kept seen new a b d t u.0) c.pieces.invariant.takes c.in_ok-read_piece.ensures.reads;
-      stays = stays_more (g.L.Link.coming c.args.link.now) (g.L.Link.coming c.pieces.link) (g.L.Link.coming c.read_piece.new.link) (g.L.Link.past c.args.link.now) (g.L.Link.past c.pieces.link) (g.L.Link.past c.read_piece.new.link) (g.L.Link.faults c.args.link.now) (g.L.Link.faults c.pieces.link) (g.L.Link.faults c.read_piece.new.link) c.pieces.invariant.stays c.read_piece.ensures.stays;
+      stays = stays_more g.L.Link c.args.link.now c.pieces.link c.read_piece.new.link c.pieces.invariant.stays c.read_piece.ensures.stays;
     }

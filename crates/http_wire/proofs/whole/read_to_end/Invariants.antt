@@ -1,5 +1,6 @@
 use Rattle.std.proofs.Common.{◌-◌, IsSome, vec_len}
-use Rattle.lab_outside.specs.Connection.{OnPresent, Stays}
+use Rattle.lab_outside.specs.Connection.{OnPresent}
+use Rattle.lab_outside.specs.Links.{Stays}
 use Rattle.http_wire.specs.Reading.{Takes}
 use Rattle.http_wire.specs.Pieces.{IsSearched}
 use Rattle.http_wire.proofs.whole.read_to_end.Given as goal
@@ -10,7 +11,7 @@ invariant-pieces g l =
       present : IsSome (g.L.Link.present l.link);
       searched : IsSearched l.kept.bytes.items l.search;
       takes : OnPresent (Takes l.fn.kept.bytes.items l.kept.bytes.items) (g.L.Link.present l.fn.link) (g.L.Link.present l.link);
-      stays : Stays (g.L.Link.coming l.fn.link) (g.L.Link.coming l.link) (g.L.Link.past l.fn.link) (g.L.Link.past l.link) (g.L.Link.faults l.fn.link) (g.L.Link.faults l.link);
+      stays : Stays g.L.Link l.fn.link l.link;
     }
 
 abbrev pub decreases-pieces : goal.decreases-pieces

@@ -18,5 +18,5 @@ writes-preserved g c =
           rw take_rest
           (on_present_then (IsPart bytes rest) W (IsPart bytes (drop n rest)) (g.L.Link.present c.args.link.now) (g.L.Link.present c.writes.link) (g.L.Link.present c.write.new.self)
           (λ a b d p w. part_more {E = Failed} bytes rest n a b d p w) c.writes.invariant.part c.in-Ok.ensures.writes);
-      stays = record { coming = c.in-Ok.ensures.still_coming ∙ s.coming; past = c.in-Ok.ensures.still_past ∙ s.past; faults = c.in-Ok.ensures.uncounted ∙ s.faults };
+      stays = record { coming = c.in-Ok.ensures.still_coming ∙ s.coming; past = c.in-Ok.ensures.still_past ∙ s.past; open_at = c.in-Ok.ensures.still_open ∙ s.open_at; faults = c.in-Ok.ensures.uncounted ∙ s.faults };
     }

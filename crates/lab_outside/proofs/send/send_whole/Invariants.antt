@@ -1,5 +1,6 @@
 use Rattle.std.proofs.Common.{IsSome, length}
-use Rattle.lab_outside.specs.Connection.{OnPresent, Stays}
+use Rattle.lab_outside.specs.Connection.{OnPresent}
+use Rattle.lab_outside.specs.Links.{Stays}
 use Rattle.lab_outside.proofs.Present.{IsPart}
 use Rattle.lab_outside.proofs.send.send_whole.Given as goal
 
@@ -8,7 +9,7 @@ invariant-writes g l =
     record {
       present : IsSome (g.L.Link.present l.link);
       part : OnPresent (IsPart l.bytes l.rest) (g.L.Link.present l.fn.link) (g.L.Link.present l.link);
-      stays : Stays (g.L.Link.coming l.fn.link) (g.L.Link.coming l.link) (g.L.Link.past l.fn.link) (g.L.Link.past l.link) (g.L.Link.faults l.fn.link) (g.L.Link.faults l.link);
+      stays : Stays g.L.Link l.fn.link l.link;
     }
 
 abbrev pub decreases-writes : goal.decreases-writes

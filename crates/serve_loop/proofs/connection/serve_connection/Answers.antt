@@ -25,7 +25,7 @@ requests-init g c =
           (λ left e. talk_begins model (fits_asking g.S.Storage.fits) buckets g' request_limit 1000 p left holds times c.args.served.now kept a e c.new-kept.ensures refl (stands_here model g.S.Storage.fits g.S.Storage.lacks stands times c.args.served.now p st)));
       goes = λ s st. (s, here_reached model g.S.Storage.fits g.S.Storage.lacks stands s st);
       state = c.requires.state;
-      stays = stays_none (g.L.Link.coming c.args.link.now) (g.L.Link.past c.args.link.now) (g.L.Link.faults c.args.link.now);
+      stays = stays_none g.L.Link c.args.link.now;
     }
 
 pub requests-preserved : goal.requests-preserved
@@ -57,7 +57,7 @@ requests-preserved g c =
           (λ left a d f i s. talk_goes_on model fits lacks buckets g' (talk model buckets g' request_limit p left) p.store more kept kept' stands stands' times times' served served' a d f i s);
       goes = λ s st. let t = c.requests.invariant.goes s st in let u = c.in-Ok.ensures.goes t.0 t.1.0 in (u.0, reached_more model fits lacks stands' s t.0 u.0 t.1.1 u.1);
       state = let t = c.in-Ok.ensures.goes c.requests.invariant.state.0 c.requests.invariant.state.1 in (t.0, t.1.0);
-      stays = stays_more (g.L.Link.coming c.args.link.now) (g.L.Link.coming c.requests.link) (g.L.Link.coming c.serve_request.new.link) (g.L.Link.past c.args.link.now) (g.L.Link.past c.requests.link) (g.L.Link.past c.serve_request.new.link) (g.L.Link.faults c.args.link.now) (g.L.Link.faults c.requests.link) (g.L.Link.faults c.serve_request.new.link) c.requests.invariant.stays c.serve_request.ensures.stays;
+      stays = stays_more g.L.Link c.args.link.now c.requests.link c.serve_request.new.link c.requests.invariant.stays c.serve_request.ensures.stays;
     }
 
 pub returns-then-not-goes-clause-talks : goal.returns-then-not-goes-clause-talks

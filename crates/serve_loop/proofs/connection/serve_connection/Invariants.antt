@@ -1,5 +1,6 @@
 use Rattle.std.proofs.Common.{IsSome}
-use Rattle.lab_outside.specs.Connection.{OnPresent, Stays}
+use Rattle.lab_outside.specs.Connection.{OnPresent}
+use Rattle.lab_outside.specs.Links.{Stays}
 use Rattle.serve_model.specs.Stores.{fits_asking}
 use Rattle.serve_model.specs.Talk.{Grammar, Serving, request_limit, talk}
 use Rattle.serve_model.specs.Serving.{HasState, Reached, Stands, OnLeft}
@@ -14,7 +15,7 @@ invariant-requests g l =
           OnPresent (λ c d. OnLeft (λ left. InTalk g.S.Storage.model (fits_asking g.S.Storage.fits) l.buckets g' (talk g.S.Storage.model l.buckets g' request_limit p left) (Reached g.S.Storage.model g.S.Storage.fits g.S.Storage.lacks (g.S.Storage.stands l.store) p.store) (g.C.Clock.times l.clock) l.served l.more l.kept.bytes.items c d) c.left) (g.L.Link.present l.fn.link) (g.L.Link.present l.link);
       goes : (s : g.S.Storage.State) → g.S.Storage.stands l.fn.store s → HasState (Reached g.S.Storage.model g.S.Storage.fits g.S.Storage.lacks (g.S.Storage.stands l.store) s);
       state : HasState (g.S.Storage.stands l.store);
-      stays : Stays (g.L.Link.coming l.fn.link) (g.L.Link.coming l.link) (g.L.Link.past l.fn.link) (g.L.Link.past l.link) (g.L.Link.faults l.fn.link) (g.L.Link.faults l.link);
+      stays : Stays g.L.Link l.fn.link l.link;
     }
 
 abbrev pub decreases-requests : goal.decreases-requests

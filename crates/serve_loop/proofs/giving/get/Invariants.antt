@@ -1,5 +1,6 @@
 use Rattle.std.proofs.Common.{Option, IsSome}
-use Rattle.lab_outside.specs.Connection.{OnPresent, Stays}
+use Rattle.lab_outside.specs.Connection.{OnPresent}
+use Rattle.lab_outside.specs.Links.{Stays}
 use Rattle.flow_model.specs.declared.order.Order.TheVariants.{Get}
 use Rattle.serve_model.specs.Stores.{Given}
 use Rattle.serve_loop.specs.Giving.{IsAt}
@@ -12,7 +13,7 @@ invariant-pieces g l =
       present : IsSome (g.L.Link.present l.link);
       gives : (so_far : Option Given) × ((s : g.S.Storage.State) → g.S.Storage.stands l.fn.store s → g.S.Storage.gives l.store s l.request.time (Get l.fn.bucket l.fn.key) so_far)
           × OnPresent (IsAt l.request l.range l.progress so_far) (g.L.Link.present l.fn.link) (g.L.Link.present l.link);
-      stays : Stays (g.L.Link.coming l.fn.link) (g.L.Link.coming l.link) (g.L.Link.past l.fn.link) (g.L.Link.past l.link) (g.L.Link.faults l.fn.link) (g.L.Link.faults l.link);
+      stays : Stays g.L.Link l.fn.link l.link;
     }
 
 abbrev pub decreases-pieces : goal.decreases-pieces

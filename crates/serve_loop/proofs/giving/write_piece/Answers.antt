@@ -24,5 +24,5 @@ returns-in_default g c =
       written = λ r range given start at.
           on_present (IsAt r range c.args.progress (Some given)) (IsAt r range c.args.progress (Some (with_piece given c.args.piece.now))) start o
           (λ a b is. still r range given c.args.piece.now c.args.progress a b c.in_default.not-Writing is) at;
-      stays = stays_none (g.L.Link.coming c.args.link.now) (g.L.Link.past c.args.link.now) (g.L.Link.faults c.args.link.now);
+      stays = stays_none g.L.Link c.args.link.now;
     }

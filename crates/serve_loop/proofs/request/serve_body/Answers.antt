@@ -8,7 +8,8 @@ use Rattle.serve_model.specs.declared.answer.Answer.TheVariants.{Refusal}
 use Rattle.serve_model.specs.Stores.{known_from}
 use Rattle.serve_model.specs.Talk.{text_of, closes_of, passing, answer_turn, whole_turn, body_turn}
 use Rattle.serve_model.specs.Serving.{Reached}
-use Rattle.serve_loop.proofs.Serving.{IsQuiet, IsFailed, on_present_both, read_then, read_fails, read_wants, passing_serves, says_serves, stands_here, goes_here}
+use Rattle.serve_loop.specs.Taking.{IsQuiet, IsFailed}
+use Rattle.serve_loop.proofs.Serving.{on_present_both, read_then, read_fails, read_wants, passing_serves, says_serves, stands_here, goes_here}
 use Rattle.serve_loop.proofs.Bodies.{whole_body, short_body, takes_quiet, fails_failed}
 use Rattle.serve_loop.proofs.Begins.{begins_so, body_begins}
 use Rattle.serve_loop.proofs.request.serve_body.Goals as goal

@@ -9,12 +9,15 @@ use Rattle.serve_model.specs.Judging.{order_of, reply_without}
 use Rattle.serve_model.specs.Serving.{Reached}
 use Rattle.serve_loop.specs.Giving.{IsGetOf}
 use Rattle.serve_loop.proofs.Serving.{serves_same, says_serves, stands_here, goes_here, gives_up}
-use Rattle.serve_loop.proofs.Keys.{order_keyed, get_asked, no_get_asked}
+use Rattle.serve_loop.proofs.Keys.{order_keyed, order_whole, get_asked, no_get_asked}
 use Rattle.serve_loop.proofs.Begins.{plan_begins}
 use Rattle.serve_loop.proofs.request.serve_judged.Goals as goal
 
 pub carry-requires-clause-keyed : goal.carry-requires-clause-keyed
 carry-requires-clause-keyed g c = order_keyed c.args.request.now.ask c.args.body c.in-Ok-Some.order c.requires.keyed (sym c.in-Ok-Some.field-0-is ∙ c.in-Ok-Some.ensures.same)
+
+pub carry-requires-clause-whole : goal.carry-requires-clause-whole
+carry-requires-clause-whole g c = order_whole c.args.request.now.ask c.args.body c.in-Ok-Some.order (sym c.in-Ok-Some.field-0-is ∙ c.in-Ok-Some.ensures.same)
 
 pub carry-requires-clause-no_get : goal.carry-requires-clause-no_get
 carry-requires-clause-no_get g c = no_get_asked c.args.request.now.ask c.args.body c.in-Ok-Some.order c.in_default.not-Get (sym c.in-Ok-Some.field-0-is ∙ c.in-Ok-Some.ensures.same)

@@ -6,7 +6,8 @@ use Rattle.http_wire.specs.Reading.{ReadsHead, IsHeadOf, OnAll}
 use Rattle.serve_model.specs.Stores.{known_from}
 use Rattle.serve_model.specs.Talk.{clocked, passing, said, bad_head, head_turn, turn}
 use Rattle.serve_model.specs.Serving.{Reached, Says, SaysOn}
-use Rattle.serve_loop.proofs.Serving.{IsQuiet, IsFailed, on_present_both, read_then, read_fails, read_wants, passing_serves, says_serves, silence_says, stands_here, goes_here}
+use Rattle.serve_loop.specs.Taking.{IsQuiet, IsFailed}
+use Rattle.serve_loop.proofs.Serving.{on_present_both, read_then, read_fails, read_wants, passing_serves, says_serves, silence_says, stands_here, goes_here}
 use Rattle.serve_loop.proofs.Bodies.{takes_quiet, fails_failed}
 use Rattle.serve_loop.proofs.Heads.{stands_clocked, turn_of_head, turn_of_bad, turn_of_long, turn_of_end}
 use Rattle.serve_loop.proofs.Begins.{begins_so, turn_begins}

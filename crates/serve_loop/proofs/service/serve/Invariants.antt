@@ -1,4 +1,4 @@
-use Rattle.std.proofs.Common.{◌≡◌, ◌≤◌, ◌-◌, None, IfSome}
+use Rattle.std.proofs.Common.{◌≡◌, ◌≤◌, ◌+◌, ◌-◌, length, Some, None, IfSome}
 use Rattle.serve_model.specs.Stores.{fits_asking}
 use Rattle.serve_model.specs.Talk.{Grammar, Serving}
 use Rattle.serve_model.specs.Serving.{HasState, Reached, Stands}
@@ -14,7 +14,9 @@ invariant-connections g l =
           IfSome (g.L.Link.coming l.fn.link) (λ coming. ServesAll g.S.Storage.model l.buckets g' (fits_asking g.S.Storage.fits) p l.number (Reached g.S.Storage.model g.S.Storage.fits g.S.Storage.lacks (g.S.Storage.stands l.store) p.store) (g.C.Clock.times l.clock) l.served coming (g.L.Link.coming l.link) (g.L.Link.past l.fn.link) (g.L.Link.past l.link));
       goes : (s : g.S.Storage.State) → g.S.Storage.stands l.fn.store s → HasState (Reached g.S.Storage.model g.S.Storage.fits g.S.Storage.lacks (g.S.Storage.stands l.store) s);
       state : HasState (g.S.Storage.stands l.store);
-      counted : g.L.Link.faults l.fn.link ≤ g.L.Link.faults l.link;
+      steady : g.L.Link.faults l.link ≡ g.L.Link.faults l.fn.link;
+      opened : g.L.Link.open_at l.link ≡ Some l.port;
+      gone : length (g.L.Link.past l.link) ≡ length (g.L.Link.past l.fn.link) + l.number;
       within : l.number ≤ l.count;
       told : StillTells (g.L.Link.coming l.fn.link) (g.L.Link.coming l.link);
     }

@@ -2,7 +2,7 @@ use Rattle.std.proofs.Common.{Err, ap}
 use Rattle.lab_outside.specs.declared.exit.Status.TheVariants.{Done}
 use Rattle.serve_run.specs.Told.{told}
 use Rattle.serve_run.specs.Answer.{IsEnd}
-use Rattle.serve_run.proofs.Ending.{no_write_done, no_want, no_want_done, stopped_wants, wrote_whole, wrote_part, stopped_whole, stopped_part, read_status, no_read_status, after_reading}
+use Rattle.serve_run.proofs.Ending.{no_write_done, no_want, no_want_done, stopped_wants, wrote_whole, wrote_part, stopped_whole, stopped_part, read_status, no_read_status, after_reading, link_status, no_link_status}
 use Rattle.serve_run.proofs.server.serve_and_tell.Goals as goal
 
 pub returns-in-Ok-clause-answers : goal.returns-in-Ok-clause-answers
@@ -46,3 +46,9 @@ returns-in-Err-clause-wants g c = λ g' e. c.in-Err.ensures.wants g' (ap Err (st
 pub returns-in-Err-clause-read : goal.returns-in-Err-clause-read
 returns-in-Err-clause-read g c = λ s. c.in-Err.ensures.read
     (after_reading c.in-Err.stop c.stopped.result (g.O.Sink.written c.args.output.now) (g.O.Sink.written c.stopped.new.output) (g.O.Sink.faults c.args.output.now) (g.O.Sink.faults c.stopped.new.output) c.stopped.ensures.ends c.stopped.ensures.told s)
+
+pub returns-in-Ok-clause-link_told : goal.returns-in-Ok-clause-link_told
+returns-in-Ok-clause-link_told g c = no_link_status c.in-Ok.text c.ends.result _ c.in-Ok.ensures.link_told
+
+pub returns-in-Err-clause-link_told : goal.returns-in-Err-clause-link_told
+returns-in-Err-clause-link_told g c = link_status c.in-Err.stop c.stopped.result _ c.stopped.ensures.link c.in-Err.ensures.link_told

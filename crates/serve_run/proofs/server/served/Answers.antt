@@ -1,10 +1,11 @@
-use Rattle.std.proofs.Common.{inl, inr, ◌∙◌, ◌-◌, refl, ap, map, take, length}
+use Rattle.std.proofs.Common.{inl, inr, ◌∙◌, ◌-◌, refl, ap, map, take, length, Ok}
 use Rattle.std.proofs.lemmas.List.{length-map}
 use Rattle.serve_cluster.specs.declared.change.Change.{Change}
 use Rattle.serve_cluster.specs.Changes.{IsChanging}
 use Rattle.serve_run.specs.Told.{told}
 use Rattle.serve_run.specs.Answer.{to_show}
 use Rattle.serve_run.proofs.Serving.{begins_as, left, how_stopped, members_are, tail_is, unshown_is, unshown_stops, first_stops}
+use Rattle.serve_run.proofs.Ending.{caused_on, fault_on, link_before, link_on}
 use Rattle.serve_run.proofs.server.served.Goals as goal
 
 pub serve-requires-clause-state : goal.serve-requires-clause-state
@@ -71,9 +72,10 @@ returns-clause-how g c = λ g'.
       number = c.in_ok-count.count;
       within = c.in_ok-count.ensures.within;
       short = c.in_ok-count.ensures.short;
+      gone = c.in_ok-count.ensures.gone;
       has = l.has;
       text_is =
-          tail_is p l.has.first l.has.orders c.in_ok-count.count c.left-left.result c.as_slice-3.result.now c.in_ok-text.text
+          tail_is p l.has.first l.has.jobs c.in_ok-count.count c.left-left.result c.as_slice-3.result.now c.in_ok-text.text
           (c.as_slice-3.ensures ∙ c.truncate.ensures ∙ (ap (λ n. take n c.in_ok-later.later) (c.saturating_sub-made.ensures ∙ ap (λ n. n - c.left-left.result) count) ∙ ap (take (length p.changes - c.left-left.result)) sets))
           (c.left-left.ensures l.at l.stands ∙ ap (λ xs. length xs) l.left) l.at.cluster.run l.run (c.in_ok-text.ensures.text l.at.cluster.run (c.world.ensures l.at l.stands));
     }
@@ -92,3 +94,18 @@ pub returns-in_err-members-clause-how : goal.returns-in_err-members-clause-how
 returns-in_err-members-clause-how g c = λ g'.
     let t = told (g.C.Clock.times c.args.clock.now) (g.C.Clock.times c.args.clock.now) (g.L.Link.coming c.args.link.now) (g.L.Link.coming c.args.link.now) (g.L.Link.past c.args.link.now) (g.L.Link.past c.args.link.now) in
     first_stops g' c.args.plan t refl c.args.server.count c.from_residual.result c.in_err-members.field-0.0 c.from_residual.ensures.1 c.in_err-members.ensures.want
+
+pub returns-in_err-count-clause-told : goal.returns-in_err-count-clause-told
+returns-in_err-count-clause-told g c = link_on c.in_err-count.field-0.0 c.from_residual-in_err-count.result _ c.from_residual-in_err-count.ensures.1 c.in_err-count.ensures.told
+
+pub returns-in_err-text-clause-told : goal.returns-in_err-text-clause-told
+returns-in_err-text-clause-told g c = link_before c.in_ok-count.count c.from_residual-in_err-text.result _ c.in_ok-count.ensures.told
+
+pub returns-clause-told : goal.returns-clause-told
+returns-clause-told g c = link_before c.in_ok-count.count (Ok c.in_ok-text.text) _ c.in_ok-count.ensures.told
+
+pub returns-in_err-count-clause-causes : goal.returns-in_err-count-clause-causes
+returns-in_err-count-clause-causes g c = caused_on c.in_err-count.field-0.0 c.from_residual-in_err-count.result c.from_residual-in_err-count.ensures.1
+
+pub returns-in_err-count-clause-fault : goal.returns-in_err-count-clause-fault
+returns-in_err-count-clause-fault g c = fault_on c.in_err-count.field-0.0 c.from_residual-in_err-count.result c.from_residual-in_err-count.ensures.1 c.in_err-count.ensures.fault

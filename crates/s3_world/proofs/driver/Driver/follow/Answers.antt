@@ -1,7 +1,7 @@
-use Rattle.std.proofs.Common.{refl, sym, ap, ◌∙◌}
+use Rattle.std.proofs.Common.{sym, ap, ◌∙◌}
 use Rattle.s3_world.specs.Reads.{after_phase}
 use Rattle.s3_world.proofs.Causes.{handed_on, same_causes}
-use Rattle.s3_world.proofs.Follows.{follow_nobody, follow_ended, sized, next_phase, more_waits, more_overflows, wait_waits, end_plays, end_overflows, drawn_overflows}
+use Rattle.s3_world.proofs.Follows.{follow_nobody, follow_ended, sized, next_phase, more_begins, more_overflows, wait_waits, end_plays, end_overflows, drawn_overflows}
 use Rattle.s3_world.proofs.driver.Driver.follow.Goals as goal
 
 pub returns-in_default-clause-plays : goal.returns-in_default-clause-plays
@@ -19,34 +19,33 @@ returns-in_err-flow-2-clause-causes g c =
 pub next-requires : goal.next-requires
 next-requires g c = sized c.args.self.now c.in-Some.i c.args.request c.in-Some.ensures.found.0 c.at_mut-asked.result.now c.at_mut-asked.ensures.value c.args.end c.in-Some-2.flow (sym c.in_ok-flow.ensures.flow ∙ c.in-Some-2.is) c.requires.stands
 
-pub step-requires-clause-meant : goal.step-requires-clause-meant
-step-requires-clause-meant g c =
+pub begins-requires-clause-short : goal.begins-requires-clause-short
+begins-requires-clause-short g c =
     (next_phase c.args.self.now c.in-Some.i c.args.request c.in-Some.ensures.found.0 c.at_mut-asked.result.now c.at_mut-asked.ensures.value c.args.end c.in-Some-2.flow (sym c.in_ok-flow.ensures.flow ∙ c.in-Some-2.is) c.clock-now.result c.clock-now.ensures
     c.in_ok-flow-2.field-0 c.in_ok-flow-2.ensures.is c.in-More.flow c.in-More.phase c.in-More.is).short
 
-pub step-requires-clause-stocked : goal.step-requires-clause-stocked
-step-requires-clause-stocked g c =
+pub begins-requires-clause-stocked : goal.begins-requires-clause-stocked
+begins-requires-clause-stocked g c =
     (next_phase c.args.self.now c.in-Some.i c.args.request c.in-Some.ensures.found.0 c.at_mut-asked.result.now c.at_mut-asked.ensures.value c.args.end c.in-Some-2.flow (sym c.in_ok-flow.ensures.flow ∙ c.in-Some-2.is) c.clock-now.result c.clock-now.ensures
     c.in_ok-flow-2.field-0 c.in_ok-flow-2.ensures.is c.in-More.flow c.in-More.phase c.in-More.is).stocked
 
-pub returns-in_err-report-in-More-clause-causes : goal.returns-in_err-report-in-More-clause-causes
-returns-in_err-report-in-More-clause-causes g c =
-    handed_on c.from_residual-in_err-report-in-More.result c.in_err-report-in-More.field-0.0 c.from_residual-in_err-report-in-More.ensures.1
-    (more_overflows c.args.self.now c.in-Some.i c.args.request c.in-Some.ensures.found.0 c.at_mut-asked.result.now c.at_mut-asked.ensures.value c.args.end c.in-Some-2.flow (sym c.in_ok-flow.ensures.flow ∙ c.in-Some-2.is) c.clock-now.result c.clock-now.ensures
-    c.in_ok-flow-2.field-0 c.in_ok-flow-2.ensures.is c.in-More.flow c.in-More.phase c.in-More.is)
-    c.in_err-report-in-More.ensures.causes
-
-pub returns-in_ok-report-in-More-clause-plays : goal.returns-in_ok-report-in-More-clause-plays
-returns-in_ok-report-in-More-clause-plays g c =
-    more_waits c.args.self.now c.in-Some.i c.args.request c.in-Some.ensures.found.0 c.at_mut-asked.result.now c.at_mut-asked.ensures.value c.args.end c.in-Some-2.flow (sym c.in_ok-flow.ensures.flow ∙ c.in-Some-2.is) c.clock-now.result c.clock-now.ensures
+pub returns-in-More-clause-plays : goal.returns-in-More-clause-plays
+returns-in-More-clause-plays g c =
+    more_begins c.args.self.now c.in-Some.i c.args.request c.in-Some.ensures.found.0 c.at_mut-asked.result.now c.at_mut-asked.ensures.value c.args.end c.in-Some-2.flow (sym c.in_ok-flow.ensures.flow ∙ c.in-Some-2.is) c.clock-now.result c.clock-now.ensures
     c.in_ok-flow-2.field-0 c.in_ok-flow-2.ensures.is c.in-More.flow c.in-More.phase c.in-More.is
-    _ c.waits.new.self c.hears.new.self c.in_ok-report-in-More.report _ (c.in_ok-flow.ensures.keeps ∙ ap (λ fl. after_phase c.at_mut-asked.result.now fl c.args.end) (sym c.in_ok-flow.ensures.flow ∙ c.in-Some-2.is)) refl c.waits.ensures c.in_ok-report-in-More.ensures.steps refl refl c.accepted-in-More.ensures
+    c.begins.new.self c.hears.new.self (c.in_ok-flow.ensures.keeps ∙ ap (λ fl. after_phase c.at_mut-asked.result.now fl c.args.end) (sym c.in_ok-flow.ensures.flow ∙ c.in-Some-2.is)) c.begins.result c.begins.ensures.begins
 
-pub returns-in-Wait-clause-plays : goal.returns-in-Wait-clause-plays
-returns-in-Wait-clause-plays g c =
+pub returns-in-More-clause-causes : goal.returns-in-More-clause-causes
+returns-in-More-clause-causes g c =
+    same_causes c.begins.result (more_overflows c.args.self.now c.in-Some.i c.args.request c.in-Some.ensures.found.0 c.at_mut-asked.result.now c.at_mut-asked.ensures.value c.args.end c.in-Some-2.flow (sym c.in_ok-flow.ensures.flow ∙ c.in-Some-2.is) c.clock-now.result c.clock-now.ensures
+    c.in_ok-flow-2.field-0 c.in_ok-flow-2.ensures.is c.in-More.flow c.in-More.phase c.in-More.is)
+    c.begins.ensures.causes
+
+pub returns-in-Need-clause-plays : goal.returns-in-Need-clause-plays
+returns-in-Need-clause-plays g c =
     wait_waits c.args.self.now c.in-Some.i c.args.request c.in-Some.ensures.found.0 c.at_mut-asked.result.now c.at_mut-asked.ensures.value c.args.end c.in-Some-2.flow (sym c.in_ok-flow.ensures.flow ∙ c.in-Some-2.is) c.clock-now.result c.clock-now.ensures
-    c.in_ok-flow-2.field-0 c.in_ok-flow-2.ensures.is c.in-Wait.flow c.in-Wait.is
-    c.waits-in-Wait.new.self c.hears.new.self c.accepted-in-Wait.result (c.in_ok-flow.ensures.keeps ∙ ap (λ fl. after_phase c.at_mut-asked.result.now fl c.args.end) (sym c.in_ok-flow.ensures.flow ∙ c.in-Some-2.is)) c.waits-in-Wait.ensures (rw c.new-in-Wait.ensures at c.accepted-in-Wait.ensures)
+    c.in_ok-flow-2.field-0 c.in_ok-flow-2.ensures.is c.in-Need.flow c.in-Need.is
+    c.waits.new.self c.hears.new.self c.accepted-in-Need.result (c.in_ok-flow.ensures.keeps ∙ ap (λ fl. after_phase c.at_mut-asked.result.now fl c.args.end) (sym c.in_ok-flow.ensures.flow ∙ c.in-Some-2.is)) c.waits.ensures (rw c.new-in-Need.ensures at c.accepted-in-Need.ensures)
 
 pub returns-in-End-clause-plays : goal.returns-in-End-clause-plays
 returns-in-End-clause-plays g c =

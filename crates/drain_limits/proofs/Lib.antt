@@ -1,0 +1,4 @@
+pub mod Counting
+pub mod Asking
+pub mod Paying
+pub mod Draining

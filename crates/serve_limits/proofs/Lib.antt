@@ -1,0 +1,6 @@
+pub mod Rounds
+pub mod Steps
+pub mod Acts
+pub mod Jobs
+pub mod Room
+pub mod Talking
