@@ -39,9 +39,9 @@ use audit_sheets::{
 use crdt_rows::{
     AnyRow, object_rows_join_as_facts, reference_rows_join_as_facts, version_rows_join_as_facts,
 };
-use limit_laws::schedules_are_within_limits;
 use object_schema::S3Schema;
 use store_anchors::promises_are_kept;
+use text_model::schedules_are_within_limits;
 use world_laws::{empty_world_is_sound, sound_worlds_stay_sound};
 use world_reads::{
     every_installed_world_reads_what_was_kept, every_world_gives_windows,

@@ -22,8 +22,8 @@ ghost use Rattle.audit_ends.specs.Next.{Chosen, Passes};
 use audit_findings::one_finding;
 use audit_laws::texts_give_one_account;
 use audit_runs::{cuts_change_no_run, first_turns_keep_promises, lawful_prints_are_greatest};
-use limit_laws::schedules_are_within_limits;
 use replay_run::lawful_turns_end_once;
+use text_model::schedules_are_within_limits;
 
 /// Each history is fresh, or one request's read is the first that is stale; and all printed layouts are lawful, or one is the
 /// first that isn't.

@@ -17,9 +17,9 @@ use audit_runs::{audited_transcripts_keep_promises, schedules_ascend};
 use crdt_core::Memory;
 use lab_main::{ends, read_input, unread};
 use lab_outside::{Sink, Source, Status};
-use limit_laws::schedules_are_within_limits;
 use replay_command::{Stop, bad_line, schedule_of};
 use std::alloc::Global;
+use text_model::schedules_are_within_limits;
 
 /// Whether the last line of a text has no line feed.
 fn is_open(text: &[u8]) -> bool

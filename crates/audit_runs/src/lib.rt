@@ -35,9 +35,9 @@ ghost use Rattle.audit_runs.specs.Whole.{IsOtherLines, AreNumbered, IsUnbroken, 
 
 use layout_flow::light_cuts;
 use layout_roles::smaller_sizes;
-use limit_laws::schedules_are_within_limits;
 use object_schema::S3Schema;
 use store_anchors::promises_are_kept;
+use text_model::schedules_are_within_limits;
 use world_reads::{
     every_installed_world_reads_what_was_kept, every_world_gives_windows,
     every_world_has_kept_reads, every_world_is_sound, every_world_reads_stored_rows,

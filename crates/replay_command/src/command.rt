@@ -13,10 +13,10 @@ use crate::stop::Stop;
 use crdt_core::{Bytes, Memory};
 use lab_main::{ends, read_input, unread};
 use lab_outside::{Sink, Source, Status};
-use limit_laws::schedules_are_within_limits;
 use replay_run::{Account, first_turns_go_further, lawful_turns_end_once, no_replay_lacks_room};
 use std::alloc::Global;
 use store_anchors::promises_are_kept;
+use text_model::schedules_are_within_limits;
 
 /// What is said of the first line outside the grammar, by its number.
 pub fn bad_line(alloc: Global, line: u64) -> Result<Bytes, Memory>

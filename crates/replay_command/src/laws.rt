@@ -5,9 +5,9 @@ ghost use Rattle.lab_main.specs.Input.{OrTooLong};
 ghost use Rattle.replay_run.specs.declared.account.Account.{Account};
 ghost use Rattle.replay_command.specs.Answer.{IsAnswer};
 
-use limit_laws::schedules_are_within_limits;
 use replay_run::every_replay_ends;
 use schedule_text::every_text_reads;
+use text_model::schedules_are_within_limits;
 
 /// For each input an answer is stated: it is too long, or its text is a schedule, has a first bad line or too many events, and
 /// a replay of each schedule has a stated end.

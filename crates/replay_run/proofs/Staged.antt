@@ -34,7 +34,7 @@ use Rattle.cluster_machine.specs.Layouts.{layouts, has_none}
 use Rattle.cluster_machine.specs.Step.{given, none_given, most_versions, nothing, refusal, did, only, told, received, at_message, expires, closing, chosen, applies_at, trio_applies, acting, local, begun, beginning, opening, effects}
 use Rattle.cluster_machine.specs.Choices.{Decision, IsComputed, IsNone}
 use Rattle.cluster_machine.specs.Worlds.{Model, Done, newest_at, comes_to_layout, IsLawfulStep}
-use Rattle.world_core.proofs.StagedList.{staged_ascends, staged_numbered}
+use Rattle.staged_roles.proofs.StagedList.{staged_ascends, staged_numbered}
 use Rattle.layout_command.proofs.Computed.{Computed, few_nodes, few_zones, none, layout, something_computed}
 
 -- the roles are of nodes 1 to 64, in order, each once, and the redundancy is in its range

@@ -1,1 +1,1 @@
-mod StagedList
+pub mod StagedList

@@ -1,6 +1,5 @@
 pub mod NodesAt
 pub mod ClockTimes
-pub mod StagedList
 pub mod StagedTrio
 pub mod DecidedLayout
 pub mod Asked

@@ -33,7 +33,7 @@ use crate::nodes::Nodes;
 use crate::post::{Post, send};
 use crate::report::Report;
 use crate::requests::Requests;
-use crate::staging::{staged, trio_layout, with_trio};
+use crate::staging::trio_layout;
 use block_laws::steps_keep_blocks;
 use cluster_machine::applied::{Applied, Line, Refusal};
 use cluster_machine::{Action, EndWord, LocalEnd, Step, Words};
