@@ -8,6 +8,16 @@
 #![tactic(auto)]
 
 mod announced;
+#[cfg(test)]
+mod audit_faults;
+#[cfg(test)]
+mod audited_layouts;
+#[cfg(test)]
+mod audited_lists;
+#[cfg(test)]
+mod audited_requests;
+#[cfg(test)]
+mod audits;
 mod command;
 mod ending;
 mod run;

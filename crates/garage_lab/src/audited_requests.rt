@@ -1,5 +1,5 @@
 //! Accounts of requests: transcripts of one put and one get, with a line other than it should be.
-use crate::runs::{audited, count_lines, joined, repeated, replaced};
+use crate::audits::{audited, count_lines, joined, repeated, replaced};
 use lab_outside::Status;
 use std::alloc::Global;
 use std::test::Fail;

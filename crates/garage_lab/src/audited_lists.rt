@@ -1,6 +1,6 @@
 //! Lists in a transcript: as many keys as their line says. What is read is told by the lines alone, so the rest of the
 //! transcript stays away and differs.
-use crate::runs::{audited, joined};
+use crate::audits::{audited, joined};
 use lab_outside::Status;
 use std::test::Fail;
 

@@ -1,7 +1,7 @@
 //! Audits where a read of the input or a write of the line fails, of transcripts that end after any byte, and of inputs about
 //! the limit.
-use crate::accounts::{FIRST_SCHEDULE, FIRST_TRANSCRIPT, found};
-use crate::runs::{audited, count_lines, joined};
+use crate::audited_requests::{FIRST_SCHEDULE, FIRST_TRANSCRIPT, found};
+use crate::audits::{audited, count_lines, joined};
 use audit_run::run_audit;
 use lab_outside::{MemSink, MemSource, Status};
 use std::alloc::Global;

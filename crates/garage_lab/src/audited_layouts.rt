@@ -4,7 +4,7 @@
 //! room for 255, so the cut whose side has every vertex but the sink weighs three times 255, which is 765. A node that isn't
 //! on the side costs the 256 edges to it in place of its room: with one or two left out the cut is lighter than 768 all the
 //! same. The top is the BLAKE2b-256 of 768 times 32 zero bytes, by Python's hashlib.
-use crate::runs::{audited, count_lines, joined, repeated, replaced};
+use crate::audits::{audited, count_lines, joined, repeated, replaced};
 use lab_outside::Status;
 use std::alloc::Global;
 use std::test::Fail;
