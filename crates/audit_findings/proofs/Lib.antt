@@ -6,3 +6,12 @@ pub mod Meets
 pub mod Compare
 pub mod Runs
 pub mod One
+pub mod Lines
+pub mod Following
+pub mod Passing
+pub mod Judging
+pub mod Staged
+pub mod Orders
+pub mod Sets
+pub mod Choosing
+pub mod Some

@@ -4,7 +4,7 @@ ghost use Rattle.lab_outside.specs.declared.exit.Status.{Status};
 ghost use Rattle.lab_main.specs.Input.{OrTooLong};
 ghost use Rattle.audit_run.specs.Answer.{IsAnswer};
 
-use audit_ends::some_finding;
+use audit_findings::some_finding;
 use schedule_text::every_text_reads;
 
 /// For each input an answer is stated: it is too long, or what stands before its first mark is a schedule, has a first bad line

@@ -1,5 +1,5 @@
-use Rattle.audit_ends.proofs.Some.{found}
-use Rattle.audit_ends.proofs.some_finding.Goals as goal
+use Rattle.audit_findings.proofs.Some.{found}
+use Rattle.audit_findings.proofs.some_finding.Goals as goal
 
 pub returns : goal.returns
 returns c = λ input text events is.

@@ -35,10 +35,10 @@ use Rattle.audit_model.specs.Printed.{Staged, Printed, Print, IsLawful, IsLawful
 use Rattle.audit_model.specs.Audit.{staged_in, as_printed, as_computed, IsGiven}
 use Rattle.audit_runs.specs.Alike.{AreSameButCut, DifferInCut}
 use Rattle.audit_runs.proofs.Prints.{print_at_is, both_of}
-use Rattle.audit_ends.specs.Next.{turned, Chosen}
-use Rattle.audit_ends.proofs.Orders.{order_ascends}
-use Rattle.audit_ends.proofs.Sets.{IsOrdered, AreOrdered, IsOrderedPrint, all_ordered}
-use Rattle.audit_ends.proofs.Staged.{OneOrNot, one_staged}
+use Rattle.audit_findings.specs.Next.{turned, Chosen}
+use Rattle.audit_findings.proofs.Orders.{order_ascends}
+use Rattle.audit_findings.proofs.Sets.{IsOrdered, AreOrdered, IsOrderedPrint, all_ordered}
+use Rattle.audit_findings.proofs.Staged.{OneOrNot, one_staged}
 
 -- a layout that is given as it was printed is one that is computed
 abbrev pub PrintsAreComputed : Type 0

@@ -9,7 +9,7 @@ use Rattle.store_model.specs.Turns.{IsLawful, AreLawful}
 use Rattle.text_model.specs.Grammar.{IsAllowed}
 use Rattle.text_model.specs.Played.{steps_of, GoesOn, AllGoOn, ArePlayed, AreAllowed, AreScheduled}
 use Rattle.replay_run.specs.Replay.{SendsTooMuch, StopsAt, CutOff}
-use Rattle.audit_ends.specs.Next.{Passes}
+use Rattle.audit_findings.specs.Next.{Passes}
 
 -- lawful turns are played or cut off
 abbrev pub EndOnce : Type 0

@@ -7,7 +7,7 @@ use Rattle.layout_roles.specs.declared.role.Kind.TheVariants.{Storage, Gateway}
 use Rattle.layout_roles.specs.declared.redundancy.Redundancy.{Redundancy}
 use Rattle.layout_roles.specs.declared.redundancy.Redundancy.TheVariants.{AtLeast, Maximum}
 use Rattle.audit_model.specs.Printed.{Staged}
-use Rattle.audit_ends.proofs.Lines.{one_line}
+use Rattle.audit_findings.proofs.Lines.{one_line}
 
 abbrev pub OneOrNot : {A : Type 0} → A → A → Type 0
 OneOrNot a b = (a ≡ b) ⊎ (a ≡ b → ⊥)

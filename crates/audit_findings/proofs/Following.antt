@@ -23,8 +23,8 @@ use Rattle.audit_model.specs.Audit.{IsGiven, AreGiven, ArePrinted, AreFirstPrint
 use Rattle.audit_runs.specs.Alike.{DifferInCut, DifferInCuts}
 use Rattle.audit_findings.proofs.Ends.{turns_whole}
 use Rattle.audit_findings.proofs.Limit.{sent_alike}
-use Rattle.audit_ends.specs.Next.{turned, Chosen, Passes}
-use Rattle.audit_ends.proofs.Lines.{Lines, Begins, on, off, begins, Compared, same, other, compared, further}
+use Rattle.audit_findings.specs.Next.{turned, Chosen, Passes}
+use Rattle.audit_findings.proofs.Lines.{Lines, Begins, on, off, begins, Compared, same, other, compared, further}
 
 -- ---- what is known of runs
 

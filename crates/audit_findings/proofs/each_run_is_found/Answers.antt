@@ -1,5 +1,5 @@
-use Rattle.audit_ends.proofs.Following.{run_found}
-use Rattle.audit_ends.proofs.each_run_is_found.Goals as goal
+use Rattle.audit_findings.proofs.Following.{run_found}
+use Rattle.audit_findings.proofs.each_run_is_found.Goals as goal
 
 pub returns : goal.returns
 returns c = λ events text saids history scheduled readable fresh lawful.

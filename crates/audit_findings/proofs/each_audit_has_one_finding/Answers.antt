@@ -1,4 +1,4 @@
-use Rattle.audit_ends.proofs.each_audit_has_one_finding.Goals as goal
+use Rattle.audit_findings.proofs.each_audit_has_one_finding.Goals as goal
 
 pub returns : goal.returns
 returns c = λ input text events is short.

@@ -1,9 +1,0 @@
-pub mod Lines
-pub mod Following
-pub mod Passing
-pub mod Judging
-pub mod Staged
-pub mod Orders
-pub mod Sets
-pub mod Choosing
-pub mod Some
