@@ -40,6 +40,7 @@ use cluster_machine::{Action, EndWord, LocalEnd, Step, Words};
 use crdt_core::{List, Memory};
 use layout_roles::{Cut, Kind, Layout, Redundancy, Roles, Zone};
 use node_core::Envelope;
+use staged_roles::{staged, with_trio};
 use std::alloc::Global;
 use table_schema::Schema;
 use wire_messages::{Phase, PhaseEnd};
