@@ -7,7 +7,7 @@ use Rattle.crdt_rows.specs.declared.any_row.AnyRow.{AnyRow}
 use Rattle.crdt_rows.specs.AnyRow.{any_join}
 use Rattle.object_schema.specs.Schema.{words}
 use Rattle.layout_roles.specs.declared.layout.Layout.{Layout}
-use Rattle.cluster_machine.specs.Worlds.{does, installed}
+use Rattle.cluster_machine.specs.Worlds.{FitAll, does, installed}
 use Rattle.store_model.specs.declared.event.Told.{Told}
 use Rattle.store_model.specs.Run.{World, Moving, State, silent, drains}
 use Rattle.store_model.specs.Acts.{moves, installs, drain, all_messages, endings, acted}
@@ -18,8 +18,7 @@ use Rattle.s3_world.specs.declared.asked.Asked.{Asked}
 use Rattle.s3_world.specs.declared.world.S3World.{S3World}
 use Rattle.s3_world.specs.Driven.{known, IsSized}
 use Rattle.s3_world.specs.Reads.{Handed, nothing_handed, AreRead}
-use Rattle.s3_world.specs.Doing as doing
-use Rattle.s3_world.specs.Stands.{Tells, Holds, Becomes, Keeps, KeepsTold, Plays, Overflows}
+use Rattle.s3_world.specs.Stands.{Tells, Holds, Becomes, Carries, Keeps, Plays, Overflows}
 use Rattle.s3_world.proofs.Counts.{OpensNone, same_count}
 use Rattle.s3_world.proofs.Reading.{reads_moved}
 
@@ -80,12 +79,16 @@ all_of_them : 2 ^ 64 - 1 ≡ all_messages
 unfolding all_messages
 all_of_them = refl
 
-pub all_kept : (old new : S3World) (told : Told) → KeepsTold old new told (λ s. drains (2 ^ 64 - 1) s) → Keeps old new (λ s. acted s (drain all_messages))
-all_kept old new told plays given s d =
-    let does : doing.Does (Holds given) new told s (drains all_messages s) = subst (λ n. doing.Does (Holds given) new told s (drains n s)) all_of_them (plays given s d) in (does.stands, does.fits)
+pub all_kept : (old new : S3World) (r : Result Unit Memory) → OnOk r (Keeps old new (λ s. drains (2 ^ 64 - 1) s)) → OnOk r (Keeps old new (λ s. acted s (drain all_messages)))
+all_kept old new (Ok done) keeps = λ given s d. subst (λ n. Holds given new (drains n s).state × FitAll any_join words s.world (drains n s).moves) all_of_them (keeps given s d)
+all_kept old new (Err e) keeps = tt
 
-pub some_kept : (old new : S3World) (told : Told) (n : ℕ) → KeepsTold old new told (λ s. drains n s) → Keeps old new (λ s. acted s (drain n))
-some_kept old new told n plays given s d = let does = plays given s d in (does.stands, does.fits)
+pub all_carried : (old new : S3World) (r : Result Unit Memory) → OnOk r (Keeps old new (λ s. drains (2 ^ 64 - 1) s)) → OnOk r (Carries old new (λ s. acted s (drain all_messages)))
+all_carried old new (Ok done) keeps = all_kept old new (Ok done) keeps nothing_handed
+all_carried old new (Err e) keeps = tt
+
+pub some_kept : (old new : S3World) (n : ℕ) → Keeps old new (λ s. drains n s) → Keeps old new (λ s. acted s (drain n))
+some_kept old new n keeps given s d = keeps given s d
 
 pub all_overflow : (old : S3World) → Overflows old (λ s. drains (2 ^ 64 - 1) s) → Overflows old (λ s. acted s (drain all_messages))
 all_overflow old full s d fits = full s d (subst (λ n. FitsOutcome s (drains n s)) (sym all_of_them) fits)

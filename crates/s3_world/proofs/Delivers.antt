@@ -1,5 +1,5 @@
 -- A delivery: a step of the world, and then what the request does whose phase ended.
-use Rattle.std.proofs.Common.{◌≡◌, ℕ, Some, List, [], ◌∷◌, ◌++◌, sym, ap, ◌∙◌, subst}
+use Rattle.std.proofs.Common.{◌≡◌, ℕ, Bool, Some, List, [], ◌∷◌, ◌++◌, sym, ap, ◌∙◌, subst}
 use Rattle.std.specs.Prelude.{map, slice_get}
 use Rattle.std.specs.List.{AllByRecursion}
 use Rattle.crdt_rows.specs.declared.any_row.AnyRow.{AnyRow}
@@ -16,9 +16,10 @@ use Rattle.world_core.specs.declared.report.Report.{Report}
 use Rattle.world_core.specs.Stands.{Steps, ended}
 use Rattle.s3_world.specs.declared.asked.Asked.{Asked}
 use Rattle.s3_world.specs.declared.driver.Driver.{Driver}
-use Rattle.s3_world.specs.Driven.{known, IsSized, IsHanding, HasRun, Does, Plays, Overflows}
+use Rattle.s3_world.specs.Driven.{known, IsSized, IsHanding, HasRun, DoesHeard, PlaysHeard, Overflows}
 use Rattle.s3_world.specs.Reads.{Handed, AreRead}
 use Rattle.s3_world.proofs.Counts.{same_count}
+use Rattle.s3_world.proofs.Heard.{heard_when, when_heard}
 use Rattle.s3_world.proofs.Reading.{reads_moved}
 
 module _ {F : Type 0} (old mid : Driver F) (m : ℕ) (report : Report AnyRow) (steps : Steps any_join words old.world mid.world report (Deliver m))
@@ -38,19 +39,21 @@ module _ {F : Type 0} (old mid : Driver F) (m : ℕ) (report : Report AnyRow) (s
   pub has_next : HasRun old → HasRun mid
   has_next h = (doing h.0 (plainly (Deliver m)), is_next h.0 h.1)
 
-  pub delivered_plays : (new : Driver F) (more : Told) → Plays mid new more (λ s. goes_on s (map ended report.ends)) →
-      Plays old new (record { refused = report.refused; words = report.words; lines = report.lines ++ more.lines }) (λ s. delivers s m)
-  delivered_plays new more plays given s d =
+  pub delivered_plays : (heard : Bool) (new : Driver F) (more : Told) → PlaysHeard heard mid new more (λ s. goes_on s (map ended report.ends)) →
+      PlaysHeard heard old new (record { refused = report.refused; words = report.words; lines = report.lines ++ more.lines }) (λ s. delivers s m)
+  delivered_plays heard new more plays given s d =
       let here : State = doing s (plainly (Deliver m)) in
       let did = (steps s.world d.world).does in
-      let after : Does given new more here (goes_on here (effect s (plainly (Deliver m))).ends) = subst (λ (es : List (Ended AnyRow)). Does given new more here (goes_on here es)) did.tells.ends (plays given here (is_next s d)) in
+      let after : DoesHeard given heard new more here (goes_on here (effect s (plainly (Deliver m))).ends) = subst (λ (es : List (Ended AnyRow)). DoesHeard given heard new more here (goes_on here es)) did.tells.ends (plays given here (is_next s d)) in
       record {
         stands = record { world = after.stands.world; requests = after.stands.requests; ends = after.stands.ends; history = after.stands.history; flows = after.stands.flows; reads = after.stands.reads };
-        tells = record {
+        tells = heard_when heard (record { refused = report.refused; words = report.words; lines = report.lines ++ more.lines }) (delivers s m) (λ e. record {
           refused = did.tells.refused;
           words = did.tells.words;
-          lines = ap (λ ls. ls ++ more.lines) did.tells.lines ∙ ap (λ ls. (effect s (plainly (Deliver m))).tells ++ ls) after.tells.lines;
-        };
+          lines =
+              let then = when_heard heard more (goes_on here (effect s (plainly (Deliver m))).ends) after.tells e in
+              ap (λ ls. ls ++ more.lines) did.tells.lines ∙ ap (λ ls. (effect s (plainly (Deliver m))).tells ++ ls) then.lines;
+        });
         fits = ((did.stands.fits, did.spelled), after.fits);
       }
 

@@ -1,5 +1,5 @@
 -- What a request does whose phase ended, case by case.
-use Rattle.std.proofs.Common.{◌≡◌, ℕ, ◌+◌, ◌-◌, ◌^◌, ◌<◌, true, false, Option, Some, None, Result, Ok, Err, IfOk, List, [], ◌∷◌, ◌++◌, length, refl, sym, ap, ◌∙◌, subst, arith, ◌⊎◌, inl, inr}
+use Rattle.std.proofs.Common.{◌≡◌, ℕ, ◌+◌, ◌-◌, ◌^◌, ◌<◌, Bool, true, false, Option, Some, None, Result, Ok, Err, IfOk, List, [], ◌∷◌, ◌++◌, length, refl, sym, ap, ◌∙◌, subst, arith, ◌⊎◌, inl, inr}
 use Rattle.std.specs.Prelude.{slice_get, slice_set, map}
 use Rattle.std.specs.List.{AllByRecursion}
 use Rattle.std.proofs.lemmas.List.{map-set, length-map}
@@ -36,10 +36,11 @@ use Rattle.world_core.specs.declared.report.Report.{Report}
 use Rattle.world_core.specs.Stands.{StandsFor, Steps, Overflows as WorldOverflows}
 use Rattle.s3_world.specs.declared.asked.Asked.{Asked}
 use Rattle.s3_world.specs.declared.driver.Driver.{Driver}
-use Rattle.s3_world.specs.Driven.{Known, known, kept, IsSized, IsHanding, IsDriven, HasRun, Does, Plays, Overflows, Finishes, Begins}
+use Rattle.s3_world.specs.Driven.{Known, known, kept, IsSized, IsHanding, IsDriven, HasRun, DoesHeard, PlaysHeard, Overflows, Finishes, Begins}
 use Rattle.s3_world.specs.Reads.{Handed, heard, after_phase, AreRead}
 use Rattle.s3_world.proofs.Counts.{same_count}
 use Rattle.s3_world.proofs.Getting.{flow_then, ends_then}
+use Rattle.s3_world.proofs.Heard.{heard_when, heard_all}
 use Rattle.s3_world.proofs.Reading.{reads_next, whatever}
 use Rattle.s3_world.proofs.Phases.{IsGood, StepIsGood, next_is_good}
 use Rattle.s3_world.proofs.Places.{numbered_place, waiting_at, get_none, get_set, set_twice, set_same, all_set, all_get}
@@ -50,10 +51,10 @@ as_driven given driver s d = record { world = d.world; requests = d.requests; en
 
 -- ---- nothing
 
-pub silent_plays : {F : Type 0} (old : Driver F) (told : Told) → told ≡ record { refused = None; words = Empty; lines = [] } → Plays old old told silent
-silent_plays old told says given s d = record {
+pub silent_plays : {F : Type 0} (aloud : Bool) (old : Driver F) (told : Told) → told ≡ record { refused = None; words = Empty; lines = [] } → PlaysHeard aloud old old told silent
+silent_plays aloud old told says given s d = record {
   stands = d;
-  tells = record { refused = ap (λ (t : Told). t.refused) says; words = ap (λ (t : Told). t.words) says; lines = ap (λ (t : Told). t.lines) says };
+  tells = heard_when aloud told (silent s) (λ e. record { refused = ap (λ (t : Told). t.refused) says; words = ap (λ (t : Told). t.words) says; lines = ap (λ (t : Told). t.lines) says });
   fits = tt;
 }
 
@@ -81,15 +82,15 @@ module _ (g : Flow) (does : FlowStep) where
   rests_block block (inr waits) good = let same : StepIsGood block (Wait g) = subst (StepIsGood block) waits good in same
 
 -- nobody asked under this number
-pub follow_nobody : {F : Type 0} (old : Driver F) (q : ℕ) (end : PhaseEnd AnyRow) (told : Told) → (q ≡ 0) ⊎ (length old.requests < q) → told ≡ record { refused = None; words = Empty; lines = [] } →
-    Plays old old told (λ s. follow s q (numbered s.asked q) end)
-follow_nobody old q end told none says given s d =
-    let P : Outcome → Type 0 = λ o. Does given old told s o in
+pub follow_nobody : {F : Type 0} (aloud : Bool) (old : Driver F) (q : ℕ) (end : PhaseEnd AnyRow) (told : Told) → (q ≡ 0) ⊎ (length old.requests < q) → told ≡ record { refused = None; words = Empty; lines = [] } →
+    PlaysHeard aloud old old told (λ s. follow s q (numbered s.asked q) end)
+follow_nobody aloud old q end told none says given s d =
+    let P : Outcome → Type 0 = λ o. DoesHeard given aloud old told s o in
     let same : length old.requests ≡ length (map kept s.asked) = sym (length-map old.requests known) ∙ ap length d.requests in
     let nobody : numbered s.asked q ≡ None = get_none s.asked q (subst (λ n. (q ≡ 0) ⊎ (n < q)) same none) in
-    subst P (sym (ap (λ o. follow s q o end) nobody)) (silent_plays old told says given s d)
+    subst P (sym (ap (λ o. follow s q o end) nobody)) (silent_plays aloud old told says given s d)
 
-module _ {F : Type 0} (old : Driver F) (i q : ℕ) (place : i + 1 ≡ q) (a : Asked) (at : slice_get old.requests i ≡ Some a) (end : PhaseEnd AnyRow) where
+module _ {F : Type 0} (aloud : Bool) (old : Driver F) (i q : ℕ) (place : i + 1 ≡ q) (a : Asked) (at : slice_get old.requests i ≡ Some a) (end : PhaseEnd AnyRow) where
   -- the model's request
   abbrev waiting : {given : Handed} (s : State) → IsHanding given old s → (m : Waiting) × (slice_get s.asked i ≡ Some m) × (kept m ≡ known a)
   waiting s d = waiting_at old s d i a at
@@ -101,14 +102,14 @@ module _ {F : Type 0} (old : Driver F) (i q : ℕ) (place : i + 1 ≡ q) (a : As
 
   -- a request that has ended
   pub follow_ended : (told : Told) (x : Asked) → a.flow ≡ None → x ≡ after_phase a a.flow end → told ≡ record { refused = None; words = Empty; lines = [] } →
-      Plays old (record old { requests = slice_set old.requests i x }) told (λ s. follow s q (numbered s.asked q) end)
+      PlaysHeard aloud old (record old { requests = slice_set old.requests i x }) told (λ s. follow s q (numbered s.asked q) end)
   follow_ended told x ended is says given s d =
       let m = waiting s d in
       let here : x ≡ a = is ∙ ap (λ fl. after_phase a fl end) ended in
       let same : slice_set old.requests i x ≡ old.requests = ap (slice_set old.requests i) here ∙ set_same old.requests i a at in
-      let quiet : Does given old told s (silent s) = silent_plays old told says given s d in
-      let whole : Does given old told s (follow s q (numbered s.asked q) end) = subst (λ (o : Outcome). Does given old told s o) (sym (followed s d ∙ ap (follows s q m.0 end) ended)) quiet in
-      let P : List Asked → Type 0 = λ rs. Does given (record old { requests = rs }) told s (follow s q (numbered s.asked q) end) in
+      let quiet : DoesHeard given aloud old told s (silent s) = silent_plays aloud old told says given s d in
+      let whole : DoesHeard given aloud old told s (follow s q (numbered s.asked q) end) = subst (λ (o : Outcome). DoesHeard given aloud old told s o) (sym (followed s d ∙ ap (follows s q m.0 end) ended)) quiet in
+      let P : List Asked → Type 0 = λ rs. DoesHeard given aloud (record old { requests = rs }) told s (follow s q (numbered s.asked q) end) in
       subst P (sym same) whole
 
   module _ (f : Flow) (going : a.flow ≡ Some f) where
@@ -191,12 +192,12 @@ module _ {F : Type 0} (old : Driver F) (i q : ℕ) (place : i + 1 ≡ q) (a : As
           pub more_plays : (new : Driver F) (report : Report AnyRow) (told : Told) → Steps any_join words old.world new.world report (step.Phase q phase) →
               new.ends ≡ old.ends → new.history ≡ old.history →
               new.requests ≡ slice_set old.requests i (now_kept (Some g)) → told ≡ record { refused = None; words = Empty; lines = report.lines } →
-              Plays old new told (λ s. follow s q (numbered s.asked q) end)
+              PlaysHeard aloud old new told (λ s. follow s q (numbered s.asked q) end)
           more_plays new report told steps ends history requests says given s d =
               let m = waiting s d in
               let then = (steps s.world d.world).does in
               let t : State = (goes (seen s) q m.0 (drawn s d) g phase).state in
-              let P : Outcome → Type 0 = λ o. Does given new told s o in
+              let P : Outcome → Type 0 = λ o. DoesHeard given aloud new told s o in
               let has_block : 0 < g.block = subst (λ b. 0 < b) (sym same_block) (sized (s, as_driven given old s d)) in
               let read : AreRead given (slice_set old.requests i (now_kept (Some g))) t =
               subst (λ fl. AreRead given (slice_set old.requests i (now_kept fl)) t) (ap flow_then more)
@@ -211,24 +212,24 @@ module _ {F : Type 0} (old : Driver F) (i q : ℕ) (place : i + 1 ≡ q) (a : As
                   flows = subst (AllByRecursion (λ (b : Asked). IsSized b.flow)) (sym requests) (sized_now s d (Some g) has_block);
                   reads = subst (λ rs. AreRead given rs t) (sym requests) read;
                 };
-                tells = record {
+                tells = heard_when aloud told (goes (seen s) q m.0 (drawn s d) g phase) (λ e. record {
                   refused = ap (λ (t : Told). t.refused) says;
                   words = ap (λ (t : Told). t.words) says;
                   lines = ap (λ (t : Told). t.lines) says ∙ then.tells.lines;
-                };
+                });
                 fits = ((then.stands.fits, then.spelled), tt);
               })
 
           more_waits : (late new : Driver F) (x : Asked) (report : Report AnyRow) (told : Told) → x ≡ now_kept None → late.requests ≡ slice_set old.requests i x →
               ((b : Asked) → slice_get late.requests i ≡ Some b → new ≡ record late { requests = slice_set late.requests i (record b { flow = Some g }) }) →
               Steps any_join words old.world late.world report (step.Phase q phase) → late.ends ≡ old.ends → late.history ≡ old.history → told ≡ record { refused = None; words = Empty; lines = report.lines } →
-              Plays old new told (λ s. follow s q (numbered s.asked q) end)
+              PlaysHeard aloud old new told (λ s. follow s q (numbered s.asked q) end)
           more_waits late new x report told is_heard requests waits steps ends history says =
-              subst (λ (n : Driver F). Plays old n told (λ s. follow s q (numbered s.asked q) end)) (sym (waited late new x g is_heard requests waits))
+              subst (λ (n : Driver F). PlaysHeard aloud old n told (λ s. follow s q (numbered s.asked q) end)) (sym (waited late new x g is_heard requests waits))
               (more_plays (record late { requests = slice_set old.requests i (now_kept (Some g)) }) report told steps ends history refl says)
 
           pub more_begins : (new : Driver F) (x : Asked) → x ≡ now_kept None → (r : Result Told Memory) → IfOk r (λ told. Begins (record old { requests = slice_set old.requests i x }) new told i q g phase) →
-              IfOk r (λ told. Plays old new told (λ s. follow s q (numbered s.asked q) end))
+              IfOk r (λ told. PlaysHeard aloud old new told (λ s. follow s q (numbered s.asked q) end))
           more_begins new x is_heard (Err e) h = tt
           more_begins new x is_heard (Ok told) h = more_waits (record old { world = new.world; requests = slice_set old.requests i x }) new x h.report told is_heard refl h.rest h.begins refl refl h.tells
 
@@ -240,12 +241,12 @@ module _ {F : Type 0} (old : Driver F) (i q : ℕ) (place : i + 1 ≡ q) (a : As
 
         module _ (g : Flow) (rests : Rests g does) where
           wait_plays : (told : Told) → told ≡ record { refused = None; words = Empty; lines = [] } →
-              Plays old (record old { requests = slice_set old.requests i (now_kept (Some g)) }) told (λ s. follow s q (numbered s.asked q) end)
+              PlaysHeard aloud old (record old { requests = slice_set old.requests i (now_kept (Some g)) }) told (λ s. follow s q (numbered s.asked q) end)
           wait_plays told says given s d =
               let m = waiting s d in
               let new : Driver F = record old { requests = slice_set old.requests i (now_kept (Some g)) } in
               let t : State = record (seen s) { asked = slice_set s.asked (q - 1) (record m.0 { flow = Some g }) } in
-              let P : Outcome → Type 0 = λ o. Does given new told s o in
+              let P : Outcome → Type 0 = λ o. DoesHeard given aloud new told s o in
               let has_block : 0 < g.block = subst (λ b. 0 < b) (sym (rests_block g does f.block rests good)) (sized (s, as_driven given old s d)) in
               let then : flow_then does ≡ Some g = rests_flow g does rests in
               subst P (sym (done s d ∙ rests_takes g does (seen s) q m.0 (drawn s d) rests)) (record {
@@ -258,26 +259,26 @@ module _ {F : Type 0} (old : Driver F) (i q : ℕ) (place : i + 1 ≡ q) (a : As
                   reads = subst (λ fl. AreRead given (slice_set old.requests i (now_kept fl)) t) then
                       (reads_now s t d (ap (λ fl. slice_set s.asked (q - 1) (record m.0 { flow = fl })) (sym then)) (sym (rests_ends g does s.ends q rests)) refl refl);
                 };
-                tells = record { refused = ap (λ (t : Told). t.refused) says; words = ap (λ (t : Told). t.words) says; lines = ap (λ (t : Told). t.lines) says };
+                tells = heard_when aloud told (silent t) (λ e. record { refused = ap (λ (t : Told). t.refused) says; words = ap (λ (t : Told). t.words) says; lines = ap (λ (t : Told). t.lines) says });
                 fits = tt;
               })
 
           pub wait_waits : (new : Driver F) (x : Asked) (told : Told) → x ≡ now_kept None →
               ((b : Asked) → slice_get (slice_set old.requests i x) i ≡ Some b → new ≡ record old { requests = slice_set (slice_set old.requests i x) i (record b { flow = Some g }) }) →
-              told ≡ record { refused = None; words = Empty; lines = [] } → Plays old new told (λ s. follow s q (numbered s.asked q) end)
+              told ≡ record { refused = None; words = Empty; lines = [] } → PlaysHeard aloud old new told (λ s. follow s q (numbered s.asked q) end)
           wait_waits new x told is_heard waits says =
-              subst (λ (n : Driver F). Plays old n told (λ s. follow s q (numbered s.asked q) end)) (sym (waited (record old { requests = slice_set old.requests i x }) new x g is_heard refl waits)) (wait_plays told says)
+              subst (λ (n : Driver F). PlaysHeard aloud old n told (λ s. follow s q (numbered s.asked q) end)) (sym (waited (record old { requests = slice_set old.requests i x }) new x g is_heard refl waits)) (wait_plays told says)
 
         module _ (last : FlowEnd) (ends : does ≡ End last) (x : Asked) (is_heard : x ≡ now_kept None) where
           abbrev mid : Driver F
           mid = record old { requests = slice_set old.requests i x }
 
-          end_does : (new : Driver F) (told : Told) → Finishes mid new told q a.kind last → Plays old new told (λ s. follow s q (numbered s.asked q) end)
+          end_does : (new : Driver F) (told : Told) → Finishes aloud mid new told q a.kind last → PlaysHeard aloud old new told (λ s. follow s q (numbered s.asked q) end)
           end_does new told fin given s d =
               let m = waiting s d in
               let then = (fin.closes s.world d.world).does in
               let t : State = (finishes (seen s) q m.0 last).state in
-              let P : Outcome → Type 0 = λ o. Does given new told s o in
+              let P : Outcome → Type 0 = λ o. DoesHeard given aloud new told s o in
               let requests : new.requests ≡ slice_set old.requests i (now_kept None) = ap (λ (n : Driver F). n.requests) fin.rest ∙ ap (slice_set old.requests i) is_heard in
               let same_kind : a.kind ≡ m.0.kind = ap (λ (b : Known). b.kind) (sym m.2) in
               let read : AreRead given (slice_set old.requests i (now_kept None)) t =
@@ -293,15 +294,15 @@ module _ {F : Type 0} (old : Driver F) (i q : ℕ) (place : i + 1 ≡ q) (a : As
                   flows = subst (AllByRecursion (λ (b : Asked). IsSized b.flow)) (sym requests) (sized_now s d None tt);
                   reads = subst (λ rs. AreRead given rs t) (sym requests) read;
                 };
-                tells = record {
+                tells = heard_when aloud told (finishes (seen s) q m.0 last) (λ e. record {
                   refused = ap (λ (t : Told). t.refused) fin.tells;
                   words = ap (λ (t : Told). t.words) fin.tells;
-                  lines = ap (λ (t : Told). t.lines) fin.tells ∙ ap (λ k. lines_of_end q k last) same_kind;
-                };
+                  lines = ap (λ (t : Told). t.lines) fin.tells ∙ heard_all aloud (lines_of_end q a.kind last) e ∙ ap (λ k. lines_of_end q k last) same_kind;
+                });
                 fits = ((then.stands.fits, then.spelled), tt);
               })
 
-          pub end_plays : (new : Driver F) (r : Result Told Memory) → IfOk r (λ told. Finishes mid new told q a.kind last) → IfOk r (λ told. Plays old new told (λ s. follow s q (numbered s.asked q) end))
+          pub end_plays : (new : Driver F) (r : Result Told Memory) → IfOk r (λ told. Finishes aloud mid new told q a.kind last) → IfOk r (λ told. PlaysHeard aloud old new told (λ s. follow s q (numbered s.asked q) end))
           end_plays new (Err e) h = tt
           end_plays new (Ok told) h = end_does new told h
 

@@ -8,6 +8,7 @@ pub mod Ends
 pub mod Follows
 pub mod Getting
 pub mod Handing
+pub mod Heard
 pub mod Keeping
 pub mod Listed
 pub mod Objects

@@ -1,5 +1,5 @@
 -- What a call of its driver is to the store.
-use Rattle.std.proofs.Common.{◌≡◌, ℕ, suc, ◌<◌, ◌≤◌, true, Option, Some, None, List, [], ◌∷◌, ◌++◌, length, Result, Ok, Err, IfOk, refl, sym, ap, ◌∙◌, subst, arith}
+use Rattle.std.proofs.Common.{◌≡◌, ℕ, suc, ◌<◌, ◌≤◌, Bool, true, Option, Some, None, List, [], ◌∷◌, ◌++◌, length, Result, Ok, Err, IfOk, refl, sym, ap, ◌∙◌, subst, arith}
 use Rattle.std.specs.Prelude.{IfSome, IfNone}
 use Rattle.std.proofs.lemmas.List.{length-map}
 use Rattle.crdt_core.specs.declared.memory.Memory.{Memory}
@@ -118,7 +118,7 @@ module _ (old : S3World) (new : Driver ObjectFlows) where
     plays (Ok told) h = λ given s d. does told s (f s) d (keeps s) (h given s (is_handing old s d))
 
     -- what it tells aside
-    pub carries : (told : Told) → driven.Plays old.driver new told f → KeepsGiven old after f
+    pub carries : {heard : Bool} (told : Told) → driven.PlaysHeard heard old.driver new told f → KeepsGiven old after f
     carries told h given s d = let did = h given s (is_handing old s d) in (is_store s (f s).state d (keeps s) did.stands, did.fits)
 
   pub opened_plays : (n : ℕ) (order : Order) (r : Result Told Memory) → IfOk r (λ told. driven.PlaysIf (IsReady n old.block) old.driver new told (λ s. opened s n order)) →

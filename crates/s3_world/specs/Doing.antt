@@ -1,5 +1,5 @@
 -- What a call does, and what has no room, for any relation that ties a value of the code and a state of the model.
-use Rattle.std.specs.Prelude.{◌≡◌}
+use Rattle.std.specs.Prelude.{◌≡◌, Bool, true, false, ⊤}
 use Rattle.crdt_rows.specs.declared.any_row.AnyRow.{AnyRow}
 use Rattle.crdt_rows.specs.AnyRow.{any_join}
 use Rattle.object_schema.specs.Schema.{words}
@@ -20,6 +20,11 @@ pub record Tells (told : Told) (o : Outcome) : Type 0 where
   pub words : told.words ≡ o.words
   pub lines : told.lines ≡ o.lines
 
+-- the same, where anybody hears it
+abbrev pub TellsHeard : Bool → Told → Outcome → Type 0
+TellsHeard true told o = Tells told o
+TellsHeard false told o = ⊤
+
 -- with something lawful given there is no room after the step
 pub record LacksRoom (s : State) (st : Step AnyRow) : Type 0 where
   pub choice : Decision
@@ -27,11 +32,19 @@ pub record LacksRoom (s : State) (st : Step AnyRow) : Type 0 where
   pub lacks : FitsOutcome s (plain s (record { step = st; choice = choice })) → ⊥
 
 module _ {V : Type 0} (IsTied : V → State → Type 0) where
-  -- the value stands for the state after this outcome, and tells it; after each of its steps every number fits
-  pub record Does (new : V) (told : Told) (s : State) (o : Outcome) : Type 0 where
+  -- the value stands for the state after this outcome, and tells it where anybody hears it; after each of its steps every number fits
+  pub record DoesHeard (heard : Bool) (new : V) (told : Told) (s : State) (o : Outcome) : Type 0 where
     pub stands : IsTied new o.state
-    pub tells : Tells told o
+    pub tells : TellsHeard heard told o
     pub fits : FitAll any_join words s.world o.moves
+
+  -- the same, and it tells it
+  abbrev pub Does : V → Told → State → Outcome → Type 0
+  Does = DoesHeard true
+
+  -- from old to new the code did what this outcome says, whatever state old stood for, and tells it where anybody hears it
+  abbrev pub PlaysHeard : Bool → V → V → Told → (State → Outcome) → Type 0
+  PlaysHeard heard old new told f = ties.Steps IsTied old (λ s. DoesHeard heard new told s (f s))
 
   -- from old to new the code did what this outcome says, whatever state old stood for, and tells it
   abbrev pub Plays : V → V → Told → (State → Outcome) → Type 0

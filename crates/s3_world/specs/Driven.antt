@@ -1,5 +1,5 @@
 -- When the driver of requests stands for a state of the model, whatever its buckets and its size of blocks are, and what a call of it does.
-use Rattle.std.specs.Prelude.{◌≡◌, ◌==◌, ◌<◌, ◌+◌, ℕ, ⊤, true, Option, Some, None, List, [], ◌∷◌, ◌++◌, map, position, slice_get, slice_set}
+use Rattle.std.specs.Prelude.{◌≡◌, ◌==◌, ◌<◌, ◌+◌, ℕ, ⊤, Bool, true, if◌then◌else◌, Option, Some, None, List, [], ◌∷◌, ◌++◌, map, position, slice_get, slice_set}
 use Rattle.std.specs.Option.{option_and_then}
 use Rattle.std.specs.List.{AllByRecursion}
 use Rattle.crdt_rows.specs.declared.any_row.AnyRow.{AnyRow}
@@ -82,7 +82,15 @@ module _ {F : Type 0} where
   abbrev pub Does : Handed → Driver F → Told → State → Outcome → Type 0
   Does given = doing.Does (IsHanding given)
 
-  -- from old to new the driver did what this outcome says, whatever state old stood for, and tells it; nothing more was handed out
+  -- the same, where anybody hears what it tells
+  abbrev pub DoesHeard : Handed → Bool → Driver F → Told → State → Outcome → Type 0
+  DoesHeard given = doing.DoesHeard (IsHanding given)
+
+  -- from old to new the driver did what this outcome says, whatever state old stood for, and tells it where anybody hears it; nothing more was handed out
+  abbrev pub PlaysHeard : Bool → Driver F → Driver F → Told → (State → Outcome) → Type 0
+  PlaysHeard heard old new told f = (given : Handed) → doing.PlaysHeard (IsHanding given) heard old new told f
+
+  -- the same, and it tells it
   abbrev pub Plays : Driver F → Driver F → Told → (State → Outcome) → Type 0
   Plays old new told f = (given : Handed) → doing.Plays (IsHanding given) old new told f
 
@@ -110,12 +118,12 @@ module _ {F : Type 0} where
   abbrev pub OverflowsStep : Driver F → Step AnyRow → Type 0
   OverflowsStep = doing.OverflowsStep IsDriven
 
-  -- request q was closed in the world, its end and its record stand last, and its lines are told
-  pub record Finishes (old new : Driver F) (told : Told) (q : ℕ) (kind : Kind) (end : FlowEnd) : Type 0 where
+  -- request q was closed in the world, its end and its record stand last, and its lines are told where anybody hears them
+  pub record Finishes (heard : Bool) (old new : Driver F) (told : Told) (q : ℕ) (kind : Kind) (end : FlowEnd) : Type 0 where
     pub report : Report AnyRow
     pub closes : Steps any_join words old.world new.world report (step.Close q)
     pub rest : new ≡ record old { world = new.world; ends = old.ends ++ (q, end) ∷ []; history = record { 0 = old.history.0 ++ record_of q end ∷ [] } }
-    pub tells : told ≡ record { refused = None; words = Empty; lines = lines_of_end q kind end }
+    pub tells : told ≡ record { refused = None; words = Empty; lines = if heard then lines_of_end q kind end else [] }
 
   -- request q at place i began this phase in the world and waits so; the phase's lines are told
   pub record Begins (old new : Driver F) (told : Told) (i q : ℕ) (flow : Flow) (phase : Phase AnyRow) : Type 0 where

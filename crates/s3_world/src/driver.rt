@@ -120,7 +120,7 @@ fn push_lost(history: &mut List<Record>, lost: &[u64]) -> Result<(), Memory>
 impl<F: Flows> Driver<F> {
     ghost use Rattle.flow_model.specs.declared.flow.Flow.{Flow};
     ghost use Rattle.s3_world.specs.declared.asked.Asked.{Asked as Requested};
-    ghost use Rattle.s3_world.specs.Driven.{IsDriven, IsHanding, HasRun, IsReady, Becomes, Plays, PlaysIf, PlaysStep, Overflows, OverflowsIf, OverflowsStep, Finishes, Begins, TakesFlow};
+    ghost use Rattle.s3_world.specs.Driven.{IsDriven, IsHanding, HasRun, IsReady, Becomes, Plays, PlaysHeard, PlaysIf, PlaysStep, Overflows, OverflowsIf, OverflowsStep, Finishes, Begins, TakesFlow};
 
     /// Nothing has happened.
     pub fn new(alloc: Global, flows: F) -> Result<Driver<F>, Memory>
@@ -301,24 +301,34 @@ impl<F: Flows> Driver<F> {
         })
     }
 
-    // A request is done.
-    fn finishes(&mut self, request: u64, kind: Kind, end: FlowEnd) -> Result<Told, Memory>
+    // A request is done. Its lines are made where anybody hears them: those of a get have the MD5 of all its bytes.
+    fn finishes(
+        &mut self,
+        request: u64,
+        kind: Kind,
+        end: FlowEnd,
+        heard: bool,
+    ) -> Result<Told, Memory>
         requires stands { IsWorld any_join words self.old.world }
-        ensures finishes { IfOk result (λ told. Finishes self.old self.new told request kind end) }
+        ensures finishes { IfOk result (λ told. Finishes heard self.old self.new told request kind end) }
         ensures causes { WantOr result (WorldOverflows any_join words self.old.world (step.Close request)) }
     {
         let _ = self.world.step(Step::Close(request))?;
         let record = record_of(self.alloc, request, &end)?;
         self.history.0.push(record)?;
-        let lines = lines_of(self.alloc, request, kind, &end)?;
+        let lines = if heard {
+            lines_of(self.alloc, request, kind, &end)?
+        } else {
+            List::new(self.alloc)
+        };
         self.ends.push((request, end))?;
         Ok(accepted(lines))
     }
 
     // What a request does when its phase ended.
-    fn follow(&mut self, request: u64, end: PhaseEnd<AnyRow>) -> Result<Told, Memory>
+    fn follow(&mut self, request: u64, end: PhaseEnd<AnyRow>, heard: bool) -> Result<Told, Memory>
         requires stands { HasRun self.old }
-        ensures plays { IfOk result (λ told. Plays self.old self.new told (λ s. follow s request (numbered s.asked request) end)) }
+        ensures plays { IfOk result (λ told. PlaysHeard heard self.old self.new told (λ s. follow s request (numbered s.asked request) end)) }
         ensures causes { WantOr result (Overflows self.old (λ s. follow s request (numbered s.asked request) end)) }
     {
         let Some(i) = place(request, self.requests.len()) else {
@@ -336,7 +346,7 @@ impl<F: Flows> Driver<F> {
                 self.waits(i, flow);
                 Ok(accepted(List::new(self.alloc)))
             }
-            FlowStep::End(end) => self.finishes(request, kind, end),
+            FlowStep::End(end) => self.finishes(request, kind, end, heard),
         }
     }
 
@@ -369,26 +379,30 @@ impl<F: Flows> Driver<F> {
     }
 
     // What the request does whose phase ended, if one did.
-    fn goes_on(&mut self, mut ends: List<(u64, PhaseEnd<AnyRow>)>) -> Result<Told, Memory>
+    fn goes_on(
+        &mut self,
+        mut ends: List<(u64, PhaseEnd<AnyRow>)>,
+        heard: bool,
+    ) -> Result<Told, Memory>
         requires stands { HasRun self.old }
-        ensures plays { IfOk result (λ told. Plays self.old self.new told (λ s. goes_on s (map ended ends))) }
+        ensures plays { IfOk result (λ told. PlaysHeard heard self.old self.new told (λ s. goes_on s (map ended ends))) }
         ensures causes { WantOr result (Overflows self.old (λ s. goes_on s (map ended ends))) }
     {
         if ends.is_empty() {
             return Ok(accepted(List::new(self.alloc)));
         }
         let (request, end) = ends.remove(0);
-        self.follow(request, end)
+        self.follow(request, end, heard)
     }
 
-    /// Delivers a message.
-    pub fn delivers(&mut self, message: u64) -> Result<Told, Memory>
+    /// Delivers a message. The lines of a request that it ends are told where anybody hears them.
+    pub fn delivers(&mut self, message: u64, heard: bool) -> Result<Told, Memory>
         requires stands { HasRun self.old }
-        ensures plays { IfOk result (λ told. Plays self.old self.new told (λ s. delivers s message)) }
+        ensures plays { IfOk result (λ told. PlaysHeard heard self.old self.new told (λ s. delivers s message)) }
         ensures causes { WantOr result (Overflows self.old (λ s. delivers s message)) }
     {
         let report = self.world.step(Step::Deliver(message))?;
-        let mut told = self.goes_on(report.ends)?;
+        let mut told = self.goes_on(report.ends, heard)?;
         let mut lines = report.lines;
         lines.append(&mut told.lines)?;
         Ok(Told {
@@ -398,10 +412,11 @@ impl<F: Flows> Driver<F> {
         })
     }
 
-    /// Delivers the least message that was neither delivered nor lost, up to `count` times.
-    pub fn drains(&mut self, count: u64) -> Result<Told, Memory>
+    /// Delivers the least message that was neither delivered nor lost, up to `count` times. The lines of requests that end are
+    /// told where anybody hears them.
+    pub fn drains(&mut self, count: u64, heard: bool) -> Result<Told, Memory>
         requires stands { HasRun self.old }
-        ensures plays { IfOk result (λ told. Plays self.old self.new told (λ s. drains count s)) }
+        ensures plays { IfOk result (λ told. PlaysHeard heard self.old self.new told (λ s. drains count s)) }
         ensures causes { WantOr result (Overflows self.old (λ s. drains count s)) }
     {
         let mut lines = List::new(self.alloc);
@@ -410,7 +425,7 @@ impl<F: Flows> Driver<F> {
             let Some(message) = self.world.undelivered() else {
                 return Ok(accepted(lines));
             };
-            let mut told = self.delivers(message)?;
+            let mut told = self.delivers(message, heard)?;
             lines.append(&mut told.lines)?;
             left -= 1;
         }

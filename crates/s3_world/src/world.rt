@@ -271,7 +271,7 @@ impl S3World {
         ensures causes { WantOr result (Overflows self.old (λ s. acted s (drain 1))) }
     {
         let some = self.undelivered().is_some();
-        let _ = self.drains(1)?;
+        self.drain_unheard(1)?;
         Ok(some)
     }
 
@@ -282,8 +282,7 @@ impl S3World {
         ensures keeps { OnOk result (Keeps self.old self.new (λ s. acted s (drain all_messages))) }
         ensures causes { WantOr result (Overflows self.old (λ s. acted s (drain all_messages))) }
     {
-        let _ = self.drains(u64::MAX)?;
-        Ok(())
+        self.drain_unheard(u64::MAX)
     }
 
     /// From here on a delivered message counts as lost, and takes no room.
@@ -460,7 +459,7 @@ impl S3World {
         ensures keeps { IfOk result (λ told. KeepsTold self.old self.new told (λ s. delivers s message)) }
         ensures causes { WantOr result (Overflows self.old (λ s. delivers s message)) }
     {
-        self.driver.delivers(message)
+        self.driver.delivers(message, true)
     }
 
     // Delivers the least message that was neither delivered nor lost, up to `count` times.
@@ -469,7 +468,17 @@ impl S3World {
         ensures keeps { IfOk result (λ told. KeepsTold self.old self.new told (λ s. drains count s)) }
         ensures causes { WantOr result (Overflows self.old (λ s. drains count s)) }
     {
-        self.driver.drains(count)
+        self.driver.drains(count, true)
+    }
+
+    // The same, where nobody hears what it tells.
+    fn drain_unheard(&mut self, count: u64) -> Result<(), Memory>
+        requires stands { HasStore self.old }
+        ensures keeps { OnOk result (Keeps self.old self.new (λ s. drains count s)) }
+        ensures causes { WantOr result (Overflows self.old (λ s. drains count s)) }
+    {
+        let _ = self.driver.drains(count, false)?;
+        Ok(())
     }
 
     // Ends a request that is open.

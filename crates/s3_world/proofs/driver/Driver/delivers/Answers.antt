@@ -9,7 +9,7 @@ goes_on-requires g c = record { stands = has_next c.args.self.now _ c.args.messa
 pub returns-clause-plays : goal.returns-clause-plays
 returns-clause-plays g c = λ given s d.
     rw c.in_ok-append.ensures.ok.0
-    (delivered_plays c.args.self.now _ c.args.message c.in_ok-report.report c.in_ok-report.ensures.steps refl refl refl c.goes_on.new.self c.in_ok-told.told c.in_ok-told.ensures.plays given s d)
+    (delivered_plays c.args.self.now _ c.args.message c.in_ok-report.report c.in_ok-report.ensures.steps refl refl refl c.args.heard c.goes_on.new.self c.in_ok-told.told c.in_ok-told.ensures.plays given s d)
 
 pub returns-in_err-told-clause-causes : goal.returns-in_err-told-clause-causes
 returns-in_err-told-clause-causes g c =

@@ -5,56 +5,56 @@ use Rattle.s3_world.proofs.Follows.{follow_nobody, follow_ended, sized, next_pha
 use Rattle.s3_world.proofs.driver.Driver.follow.Goals as goal
 
 pub returns-in_default-clause-plays : goal.returns-in_default-clause-plays
-returns-in_default-clause-plays g c = follow_nobody c.args.self.now c.args.request c.args.end c.accepted.result (rw c.len.ensures at c.in_default.ensures.none) (rw c.new.ensures at c.accepted.ensures)
+returns-in_default-clause-plays g c = follow_nobody c.args.heard c.args.self.now c.args.request c.args.end c.accepted.result (rw c.len.ensures at c.in_default.ensures.none) (rw c.new.ensures at c.accepted.ensures)
 
 pub returns-in_default-2-clause-plays : goal.returns-in_default-2-clause-plays
 returns-in_default-2-clause-plays g c =
-    follow_ended c.args.self.now c.in-Some.i c.args.request c.in-Some.ensures.found.0 c.at_mut-asked.result.now c.at_mut-asked.ensures.value c.args.end c.accepted-in_default-2.result c.hears.new.self (sym c.in_ok-flow.ensures.flow ∙ c.in_default-2.is) c.in_ok-flow.ensures.keeps
+    follow_ended c.args.heard c.args.self.now c.in-Some.i c.args.request c.in-Some.ensures.found.0 c.at_mut-asked.result.now c.at_mut-asked.ensures.value c.args.end c.accepted-in_default-2.result c.hears.new.self (sym c.in_ok-flow.ensures.flow ∙ c.in_default-2.is) c.in_ok-flow.ensures.keeps
     (rw c.new-in_default-2.ensures at c.accepted-in_default-2.ensures)
 
 pub returns-in_err-flow-2-clause-causes : goal.returns-in_err-flow-2-clause-causes
 returns-in_err-flow-2-clause-causes g c =
-    handed_on c.from_residual-in_err-flow-2.result c.in_err-flow-2.field-0.0 c.from_residual-in_err-flow-2.ensures.1 (drawn_overflows c.args.self.now c.in-Some.i c.args.request c.in-Some.ensures.found.0 c.at_mut-asked.result.now c.at_mut-asked.ensures.value c.args.end c.in-Some-2.flow (sym c.in_ok-flow.ensures.flow ∙ c.in-Some-2.is) c.clock-now.result c.clock-now.ensures) c.in_err-flow-2.ensures.causes
+    handed_on c.from_residual-in_err-flow-2.result c.in_err-flow-2.field-0.0 c.from_residual-in_err-flow-2.ensures.1 (drawn_overflows c.args.heard c.args.self.now c.in-Some.i c.args.request c.in-Some.ensures.found.0 c.at_mut-asked.result.now c.at_mut-asked.ensures.value c.args.end c.in-Some-2.flow (sym c.in_ok-flow.ensures.flow ∙ c.in-Some-2.is) c.clock-now.result c.clock-now.ensures) c.in_err-flow-2.ensures.causes
 
 pub next-requires : goal.next-requires
-next-requires g c = sized c.args.self.now c.in-Some.i c.args.request c.in-Some.ensures.found.0 c.at_mut-asked.result.now c.at_mut-asked.ensures.value c.args.end c.in-Some-2.flow (sym c.in_ok-flow.ensures.flow ∙ c.in-Some-2.is) c.requires.stands
+next-requires g c = sized c.args.heard c.args.self.now c.in-Some.i c.args.request c.in-Some.ensures.found.0 c.at_mut-asked.result.now c.at_mut-asked.ensures.value c.args.end c.in-Some-2.flow (sym c.in_ok-flow.ensures.flow ∙ c.in-Some-2.is) c.requires.stands
 
 pub begins-requires-clause-short : goal.begins-requires-clause-short
 begins-requires-clause-short g c =
-    (next_phase c.args.self.now c.in-Some.i c.args.request c.in-Some.ensures.found.0 c.at_mut-asked.result.now c.at_mut-asked.ensures.value c.args.end c.in-Some-2.flow (sym c.in_ok-flow.ensures.flow ∙ c.in-Some-2.is) c.clock-now.result c.clock-now.ensures
+    (next_phase c.args.heard c.args.self.now c.in-Some.i c.args.request c.in-Some.ensures.found.0 c.at_mut-asked.result.now c.at_mut-asked.ensures.value c.args.end c.in-Some-2.flow (sym c.in_ok-flow.ensures.flow ∙ c.in-Some-2.is) c.clock-now.result c.clock-now.ensures
     c.in_ok-flow-2.field-0 c.in_ok-flow-2.ensures.is c.in-More.flow c.in-More.phase c.in-More.is).short
 
 pub begins-requires-clause-stocked : goal.begins-requires-clause-stocked
 begins-requires-clause-stocked g c =
-    (next_phase c.args.self.now c.in-Some.i c.args.request c.in-Some.ensures.found.0 c.at_mut-asked.result.now c.at_mut-asked.ensures.value c.args.end c.in-Some-2.flow (sym c.in_ok-flow.ensures.flow ∙ c.in-Some-2.is) c.clock-now.result c.clock-now.ensures
+    (next_phase c.args.heard c.args.self.now c.in-Some.i c.args.request c.in-Some.ensures.found.0 c.at_mut-asked.result.now c.at_mut-asked.ensures.value c.args.end c.in-Some-2.flow (sym c.in_ok-flow.ensures.flow ∙ c.in-Some-2.is) c.clock-now.result c.clock-now.ensures
     c.in_ok-flow-2.field-0 c.in_ok-flow-2.ensures.is c.in-More.flow c.in-More.phase c.in-More.is).stocked
 
 pub returns-in-More-clause-plays : goal.returns-in-More-clause-plays
 returns-in-More-clause-plays g c =
-    more_begins c.args.self.now c.in-Some.i c.args.request c.in-Some.ensures.found.0 c.at_mut-asked.result.now c.at_mut-asked.ensures.value c.args.end c.in-Some-2.flow (sym c.in_ok-flow.ensures.flow ∙ c.in-Some-2.is) c.clock-now.result c.clock-now.ensures
+    more_begins c.args.heard c.args.self.now c.in-Some.i c.args.request c.in-Some.ensures.found.0 c.at_mut-asked.result.now c.at_mut-asked.ensures.value c.args.end c.in-Some-2.flow (sym c.in_ok-flow.ensures.flow ∙ c.in-Some-2.is) c.clock-now.result c.clock-now.ensures
     c.in_ok-flow-2.field-0 c.in_ok-flow-2.ensures.is c.in-More.flow c.in-More.phase c.in-More.is
     c.begins.new.self c.hears.new.self (c.in_ok-flow.ensures.keeps ∙ ap (λ fl. after_phase c.at_mut-asked.result.now fl c.args.end) (sym c.in_ok-flow.ensures.flow ∙ c.in-Some-2.is)) c.begins.result c.begins.ensures.begins
 
 pub returns-in-More-clause-causes : goal.returns-in-More-clause-causes
 returns-in-More-clause-causes g c =
-    same_causes c.begins.result (more_overflows c.args.self.now c.in-Some.i c.args.request c.in-Some.ensures.found.0 c.at_mut-asked.result.now c.at_mut-asked.ensures.value c.args.end c.in-Some-2.flow (sym c.in_ok-flow.ensures.flow ∙ c.in-Some-2.is) c.clock-now.result c.clock-now.ensures
+    same_causes c.begins.result (more_overflows c.args.heard c.args.self.now c.in-Some.i c.args.request c.in-Some.ensures.found.0 c.at_mut-asked.result.now c.at_mut-asked.ensures.value c.args.end c.in-Some-2.flow (sym c.in_ok-flow.ensures.flow ∙ c.in-Some-2.is) c.clock-now.result c.clock-now.ensures
     c.in_ok-flow-2.field-0 c.in_ok-flow-2.ensures.is c.in-More.flow c.in-More.phase c.in-More.is)
     c.begins.ensures.causes
 
 pub returns-in-Need-clause-plays : goal.returns-in-Need-clause-plays
 returns-in-Need-clause-plays g c =
-    wait_waits c.args.self.now c.in-Some.i c.args.request c.in-Some.ensures.found.0 c.at_mut-asked.result.now c.at_mut-asked.ensures.value c.args.end c.in-Some-2.flow (sym c.in_ok-flow.ensures.flow ∙ c.in-Some-2.is) c.clock-now.result c.clock-now.ensures
+    wait_waits c.args.heard c.args.self.now c.in-Some.i c.args.request c.in-Some.ensures.found.0 c.at_mut-asked.result.now c.at_mut-asked.ensures.value c.args.end c.in-Some-2.flow (sym c.in_ok-flow.ensures.flow ∙ c.in-Some-2.is) c.clock-now.result c.clock-now.ensures
     c.in_ok-flow-2.field-0 c.in_ok-flow-2.ensures.is c.in-Need.flow c.in-Need.is
     c.waits.new.self c.hears.new.self c.accepted-in-Need.result (c.in_ok-flow.ensures.keeps ∙ ap (λ fl. after_phase c.at_mut-asked.result.now fl c.args.end) (sym c.in_ok-flow.ensures.flow ∙ c.in-Some-2.is)) c.waits.ensures (rw c.new-in-Need.ensures at c.accepted-in-Need.ensures)
 
 pub returns-in-End-clause-plays : goal.returns-in-End-clause-plays
 returns-in-End-clause-plays g c =
-    end_plays c.args.self.now c.in-Some.i c.args.request c.in-Some.ensures.found.0 c.at_mut-asked.result.now c.at_mut-asked.ensures.value c.args.end c.in-Some-2.flow (sym c.in_ok-flow.ensures.flow ∙ c.in-Some-2.is) c.clock-now.result c.clock-now.ensures
+    end_plays c.args.heard c.args.self.now c.in-Some.i c.args.request c.in-Some.ensures.found.0 c.at_mut-asked.result.now c.at_mut-asked.ensures.value c.args.end c.in-Some-2.flow (sym c.in_ok-flow.ensures.flow ∙ c.in-Some-2.is) c.clock-now.result c.clock-now.ensures
     c.in_ok-flow-2.field-0 c.in_ok-flow-2.ensures.is c.in-End.end c.in-End.is c.hears.new.self (c.in_ok-flow.ensures.keeps ∙ ap (λ fl. after_phase c.at_mut-asked.result.now fl c.args.end) (sym c.in_ok-flow.ensures.flow ∙ c.in-Some-2.is))
     c.finishes.new.self c.finishes.result c.finishes.ensures.finishes
 
 pub returns-in-End-clause-causes : goal.returns-in-End-clause-causes
 returns-in-End-clause-causes g c =
-    same_causes c.finishes.result (end_overflows c.args.self.now c.in-Some.i c.args.request c.in-Some.ensures.found.0 c.at_mut-asked.result.now c.at_mut-asked.ensures.value c.args.end c.in-Some-2.flow (sym c.in_ok-flow.ensures.flow ∙ c.in-Some-2.is) c.clock-now.result c.clock-now.ensures
+    same_causes c.finishes.result (end_overflows c.args.heard c.args.self.now c.in-Some.i c.args.request c.in-Some.ensures.found.0 c.at_mut-asked.result.now c.at_mut-asked.ensures.value c.args.end c.in-Some-2.flow (sym c.in_ok-flow.ensures.flow ∙ c.in-Some-2.is) c.clock-now.result c.clock-now.ensures
     c.in_ok-flow-2.field-0 c.in_ok-flow-2.ensures.is c.in-End.end c.in-End.is c.hears.new.self (c.in_ok-flow.ensures.keeps ∙ ap (λ fl. after_phase c.at_mut-asked.result.now fl c.args.end) (sym c.in_ok-flow.ensures.flow ∙ c.in-Some-2.is)))
     c.finishes.ensures.causes
