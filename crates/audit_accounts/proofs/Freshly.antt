@@ -9,6 +9,7 @@ use Rattle.store_model.specs.Run.{State, start}
 use Rattle.store_model.specs.Events.{Turn, acts_of, run}
 use Rattle.store_model.specs.Fresh.{NoClash}
 use Rattle.store_model.specs.Moments.{between}
+use Rattle.store_laws.proofs.Deeds.{turns_never_collect}
 use Rattle.store_anchors.specs.Promises.{EveryRunKeepsPromises, WalksAreClear}
 use Rattle.audit_laws.specs.Account.{blunt}
 use Rattle.audit_runs.proofs.Cuts.{same_end}
@@ -24,4 +25,4 @@ told_fresh every stays input events turns others of clear apart =
     let promises = every (acts_of others) of.played.lawful (turns_fit start others of.played.go_on) in
     let last = promises (acts_of others) (between (acts_of others) [] (sym (append-nil (acts_of others)))) in
     let same : run start turns ≡ run start others = same_end start turns others of.differ in
-    stays (run start turns).history (subst (λ (s : State). NoClash s.buckets → Fresh s.history) (sym same) (last.recorded clear) apart)
+    stays (run start turns).history (subst (λ (s : State). NoClash s.buckets → Fresh s.history) (sym same) (last.recorded clear (turns_never_collect others)) apart)

@@ -19,6 +19,7 @@ use Rattle.store_model.specs.Events.{Turn, act_of, object_bytes, outcome, outcom
 use Rattle.store_model.specs.Turns.{AreLawful}
 use Rattle.text_model.specs.Grammar.{IsAllowed}
 use Rattle.text_model.specs.Played.{AllGoOn, ArePlayed, AreAllowed, steps_of, GoesOn}
+use Rattle.store_laws.proofs.Deeds.{Deed}
 use Rattle.store_laws.proofs.Every.{EveryWorld}
 use Rattle.store_laws.proofs.Sound.{IsSound}
 use Rattle.store_laws.proofs.Starting.{start_sound}
@@ -76,7 +77,7 @@ event_keyed s (Repair n) c allowed h = plain_keyed s (plainly (step.Repair n)) h
 
 -- ---- lines
 
-module _ {H : List ℕ → Type 0} (every : EveryWorld H) where
+module _ {H : Deed → Type 0} (every : EveryWorld H) where
   event_whole : (s : State) (e : Event) (c d : Decision) → FitIn H s.world (outcome s e d).moves → IsSound H s → AreOfKeys s.history → AreKeyedLines (outcome s e c).lines
   event_whole s Trio c d fits sound keyed = step_keyed s.world step.Trio (plainly step.Trio).choice
   event_whole s (Block size) c d fits sound keyed = tt
@@ -108,12 +109,12 @@ module _ {H : List ℕ → Type 0} (every : EveryWorld H) where
 -- ---- turns
 
 -- a state of such a run: what its invariant says, and that each key in its records is one of the grammar
-record IsWhole (H : List ℕ → Type 0) (s : State) : Type 0 where
+record IsWhole (H : Deed → Type 0) (s : State) : Type 0 where
   pub sound : IsSound H s
   pub keyed : AreOfKeys s.history
 
 -- nothing is hashed for walks that isn't among these strings: no law on digests is asked for
-abbrev pub Any : List ℕ → Type 0
+abbrev pub Any : Deed → Type 0
 Any x = ⊤
 
 module _ (every : EveryWorld Any) where

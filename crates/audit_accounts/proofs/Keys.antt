@@ -44,6 +44,7 @@ use Rattle.store_model.specs.Answers.{Entry, with_entry, entries, lines_of, reco
 use Rattle.store_model.specs.Orders.{buckets_of}
 use Rattle.store_model.specs.Run.{Moving, State, Asked, Draw, Outcome, silent, refusal, plainly, effect, doing, are_buckets, phases, began_with, opened as opens_request, begins, draws_of, takes, follows, follow, goes_on, delivers, then_drains, drains}
 use Rattle.store_laws.proofs.Elements.{there}
+use Rattle.store_laws.proofs.Deeds.{Deed}
 use Rattle.store_laws.proofs.Every.{EveryWorld}
 use Rattle.store_laws.proofs.Going.{flow_of}
 use Rattle.store_laws.proofs.Listed.{new_shown}
@@ -153,7 +154,7 @@ said_whole key (marked v) is h = cc
 said_whole key (inline v meta body) is h = h v refl
 said_whole key (in_blocks v meta first) is h = h v refl
 
-module _ {H : List ℕ → Type 0} (s : State) (sound : IsSound H s) (keyed : AreOfKeys s.history) where
+module _ {H : Deed → Type 0} (s : State) (sound : IsSound H s) (keyed : AreOfKeys s.history) where
   -- a version that was found was drawn by a put or copy of its object
   found_key : (name : Name) (v : Version) → FoundIn s.draws name v → is_key name.key ≡ true
   found_key name v f =
@@ -242,7 +243,7 @@ takes_whole s q a ds (End end) h = end_whole q a.kind end h
 
 -- ---- a phase ended
 
-module _ {H : List ℕ → Type 0} (every : EveryWorld H) where
+module _ {H : Deed → Type 0} (every : EveryWorld H) where
   module _ (s : State) (q : ℕ) (a : Asked) (at : numbered s.asked q ≡ Some a) (sound : IsSound H s) (keyed : AreOfKeys s.history) where
     -- each row that a list has with this window has a whole key
     window_whole : (flow : Flow) (bucket prefix : List ℕ) (rows : List ObjectRow) (others : List AnyRow) (reach : Option (List ℕ)) → a.flow ≡ Some flow → flow.stage ≡ Listing bucket prefix rows →

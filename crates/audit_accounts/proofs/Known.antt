@@ -19,7 +19,7 @@ use Rattle.cluster_machine.specs.declared.applied.Applied.{Applied}
 use Rattle.cluster_machine.specs.declared.line.Line.{Line}
 use Rattle.cluster_machine.specs.declared.line.Line.TheVariants.{Synced, Ended as HasEnded}
 use Rattle.cluster_machine.specs.declared.line.EndWord.TheVariants.{Restarted}
-use Rattle.cluster_machine.specs.declared.step.Action.TheVariants.{Ack as RaiseAck, Sync as GoOn, SyncAck as RaiseSyncAck, Clean as CleanUp, Work as WorkOff, Repair as Mend}
+use Rattle.cluster_machine.specs.declared.step.Action.TheVariants.{Ack as RaiseAck, Sync as GoOn, SyncAck as RaiseSyncAck, Clean as CleanUp, Work as WorkOff, Repair as Mend, Collect as Gather}
 use Rattle.cluster_machine.specs.declared.step.Step.{Step}
 use Rattle.cluster_machine.specs.declared.step.Step.TheVariants as step
 use Rattle.cluster_machine.specs.declared.step.Refusal.TheVariants.{VersionTaken, VersionLimit, NotMember, Lost, AlreadyEnded}
@@ -192,6 +192,7 @@ module _ (asked : List (ℕ × Kind)) (xs : List Asked) (w : World) (known : Kno
   step_fine (step.Clean n) choice = acting_fine n (has_none layouts (w.nodes n).view) (acts any_join words layouts n (clock w n) (w.nodes n) CleanUp)
   step_fine (step.Work n) choice = acting_fine n (has_none layouts (w.nodes n).view) (acts any_join words layouts n (clock w n) (w.nodes n) WorkOff)
   step_fine (step.Repair n) choice = acting_fine n (not (is_member_at layouts w n)) (acts any_join words layouts n (clock w n) (w.nodes n) Mend)
+  step_fine (step.Collect n) choice = acting_fine n (has_none layouts (w.nodes n).view) (acts any_join words layouts n (clock w n) (w.nodes n) Gather)
   step_fine (step.Open n) choice = cond_fine (is_member_at layouts w n) _ (world_refusal w NotMember) tt tt
   step_fine (step.Phase q phase) choice = beginning_fine q phase (numbered w.requests q)
   step_fine (step.Close q) choice = closing_fine q (numbered w.requests q)
@@ -342,6 +343,7 @@ module _ (stays : StaysSound) (asked : List (ℕ × Kind)) where
   outer_calm (step.Clean n) h = tt
   outer_calm (step.Work n) h = tt
   outer_calm (step.Repair n) h = tt
+  outer_calm (step.Collect n) h = tt
   outer_calm (step.Open n) h = absurd h
   outer_calm (step.Phase q phase) h = absurd h
   outer_calm (step.Close q) h = absurd h

@@ -16,7 +16,7 @@ use Rattle.cluster_machine.specs.declared.line.Line.TheVariants.{Layout as Laid,
 use Rattle.cluster_machine.specs.declared.line.EndWord.{EndWord}
 use Rattle.cluster_machine.specs.declared.line.EndWord.TheVariants.{Expired, Restarted}
 use Rattle.cluster_machine.specs.declared.line.SentKind.{SentKind}
-use Rattle.cluster_machine.specs.declared.step.Action.TheVariants.{Ack as RaiseAck, Sync as GoOn, SyncAck as RaiseSyncAck, Clean as CleanUp, Work as WorkOff, Repair as Mend}
+use Rattle.cluster_machine.specs.declared.step.Action.TheVariants.{Ack as RaiseAck, Sync as GoOn, SyncAck as RaiseSyncAck, Clean as CleanUp, Work as WorkOff, Repair as Mend, Collect as Gather}
 use Rattle.cluster_machine.specs.declared.step.Step.{Step}
 use Rattle.cluster_machine.specs.declared.step.Step.TheVariants as step
 use Rattle.cluster_machine.specs.declared.step.Refusal.TheVariants.{VersionTaken, VersionLimit, NotMember, Lost, AlreadyEnded}
@@ -121,6 +121,7 @@ module _ (P : Line Applied → Type 0) (got : (m : ℕ) → P (Got m)) (sent : (
   step_tells (step.Clean n) choice h = acting_quiet n (has_none layouts (w.nodes n).view) (acts any_join words layouts n (clock w n) (w.nodes n) CleanUp)
   step_tells (step.Work n) choice h = acting_quiet n (has_none layouts (w.nodes n).view) (acts any_join words layouts n (clock w n) (w.nodes n) WorkOff)
   step_tells (step.Repair n) choice h = acting_quiet n (not (is_member_at layouts w n)) (acts any_join words layouts n (clock w n) (w.nodes n) Mend)
+  step_tells (step.Collect n) choice h = acting_quiet n (has_none layouts (w.nodes n).view) (acts any_join words layouts n (clock w n) (w.nodes n) Gather)
   step_tells (step.Open n) choice h = cond_quiet (is_member_at layouts w n) _ (world_refusal w NotMember) tt tt
   step_tells (step.Phase q phase) choice h = beginning_quiet q phase (numbered w.requests q)
   step_tells (step.Close q) choice h = closing_quiet q (numbered w.requests q)

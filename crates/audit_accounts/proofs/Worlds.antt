@@ -25,7 +25,7 @@ use Rattle.cluster_machine.specs.declared.line.Line.{Line}
 use Rattle.cluster_machine.specs.declared.line.Line.TheVariants.{Synced, Ended as HasEnded}
 use Rattle.cluster_machine.specs.declared.line.EndWord.TheVariants.{Restarted}
 use Rattle.cluster_machine.specs.declared.step.Action.{Action}
-use Rattle.cluster_machine.specs.declared.step.Action.TheVariants.{Ack as RaiseAck, Sync as GoOn, SyncAck as RaiseSyncAck, Clean as CleanUp, Work as WorkOff, Repair as Mend}
+use Rattle.cluster_machine.specs.declared.step.Action.TheVariants.{Ack as RaiseAck, Sync as GoOn, SyncAck as RaiseSyncAck, Clean as CleanUp, Work as WorkOff, Repair as Mend, Collect as Gather}
 use Rattle.cluster_machine.specs.declared.step.Step.{Step}
 use Rattle.cluster_machine.specs.declared.step.Step.TheVariants as step
 use Rattle.cluster_machine.specs.declared.step.Refusal.{Refusal}
@@ -94,6 +94,7 @@ StepNamed (step.SyncAck n) = IsNumber n
 StepNamed (step.Clean n) = IsNumber n
 StepNamed (step.Work n) = IsNumber n
 StepNamed (step.Repair n) = IsNumber n
+StepNamed (step.Collect n) = IsNumber n
 StepNamed (step.Open n) = IsNumber n
 StepNamed _ = ⊤
 
@@ -304,6 +305,7 @@ module _ (k most : ℕ) (grows : k ≤ most) (high : most < 2 ^ 64) (w : World) 
   step_named (step.Clean n) choice h place lawful = acting_named n (has_none layouts (w.nodes n).view) CleanUp h
   step_named (step.Work n) choice h place lawful = acting_named n (has_none layouts (w.nodes n).view) WorkOff h
   step_named (step.Repair n) choice h place lawful = acting_named n (not (is_member_at layouts w n)) Mend h
+  step_named (step.Collect n) choice h place lawful = acting_named n (has_none layouts (w.nodes n).view) Gather h
   step_named (step.Open n) choice h place lawful = opening_named n h
   step_named (step.Phase q phase) choice h place lawful = beginning_named q phase (numbered w.requests q) refl
   step_named (step.Close q) choice h place lawful = closing_named q (numbered w.requests q)

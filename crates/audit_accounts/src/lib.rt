@@ -44,8 +44,9 @@ use store_anchors::promises_are_kept;
 use text_model::schedules_are_within_limits;
 use world_laws::{empty_world_is_sound, sound_worlds_stay_sound};
 use world_reads::{
-    every_installed_world_reads_what_was_kept, every_world_gives_windows,
-    every_world_has_kept_reads, every_world_is_sound, every_world_reads_stored_rows,
+    every_installed_world_reads_what_was_kept, every_world_collects_stored_objects,
+    every_world_gives_windows, every_world_has_kept_reads, every_world_is_sound,
+    every_world_reads_stored_rows, nothing_is_collected_without_collect,
 };
 
 /// The lines of such turns can be heard: each event is the schedule's, and answers with words that it may; and each line of a
@@ -68,6 +69,8 @@ pub fn turns_tell_keys()
     every_world_reads_stored_rows::<S3Schema>();
     every_world_gives_windows::<S3Schema>();
     every_installed_world_reads_what_was_kept::<S3Schema>();
+    every_world_collects_stored_objects::<S3Schema>();
+    nothing_is_collected_without_collect::<S3Schema>();
 }
 
 /// All that the text of such turns says is in its ranges: numbers are those of the code, keys those of the grammar, and a

@@ -11,7 +11,7 @@ use Rattle.wire_messages.specs.declared.phase.PhaseEnd.{PhaseEnd}
 use Rattle.cluster_machine.specs.declared.step.Step.{Step}
 use Rattle.cluster_machine.specs.declared.step.Step.TheVariants as step
 use Rattle.cluster_machine.specs.declared.step.Action.{Action}
-use Rattle.cluster_machine.specs.declared.step.Action.TheVariants.{Ack as RaiseAck, Sync as GoOn, SyncAck as RaiseSyncAck, Clean as CleanUp, Work as WorkOff, Repair as Mend}
+use Rattle.cluster_machine.specs.declared.step.Action.TheVariants.{Ack as RaiseAck, Sync as GoOn, SyncAck as RaiseSyncAck, Clean as CleanUp, Work as WorkOff, Repair as Mend, Collect as Gather}
 use Rattle.cluster_machine.specs.declared.step.Words.TheVariants.{One}
 use Rattle.cluster_machine.specs.declared.line.Line.TheVariants.{Ended as HasEnded}
 use Rattle.cluster_machine.specs.declared.line.EndWord.TheVariants.{Expired}
@@ -136,6 +136,7 @@ module _ (w : Model AnyRow) where
   step_keeps (step.Clean n) choice none = local_keeps n CleanUp
   step_keeps (step.Work n) choice none = local_keeps n WorkOff
   step_keeps (step.Repair n) choice none = acting_keeps n (not (is_member_at layouts w n)) (acts any_join words layouts n (clock w n) (w.nodes n) Mend)
+  step_keeps (step.Collect n) choice none = local_keeps n Gather
   step_keeps (step.Open n) choice none = opening_keeps n
   step_keeps (step.Phase q phase) choice none = beginning_keeps q phase (numbered w.requests q)
   step_keeps (step.Close q) choice none = closing_keeps q (numbered w.requests q)

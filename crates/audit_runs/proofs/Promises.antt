@@ -5,6 +5,7 @@ use Rattle.store_model.specs.Run.{State, start}
 use Rattle.store_model.specs.Events.{Turn, acts_of, run}
 use Rattle.store_model.specs.Fresh.{NoClash}
 use Rattle.store_model.specs.Moments.{between}
+use Rattle.store_laws.proofs.Deeds.{turns_never_collect}
 use Rattle.store_anchors.specs.Promises.{EveryRunKeepsPromises}
 use Rattle.text_model.specs.Played.{ArePlayed}
 use Rattle.audit_runs.specs.Alike.{DifferInCuts}
@@ -23,5 +24,5 @@ kept_beside every turns others differ played =
       differ = differ;
       played = played;
       promises = promises;
-      recorded = λ clear. subst (λ (s : State). NoClash s.buckets → Fresh s.history) (sym same) (last.recorded clear);
+      recorded = λ clear. subst (λ (s : State). NoClash s.buckets → Fresh s.history) (sym same) (last.recorded clear (turns_never_collect others));
     }

@@ -22,6 +22,7 @@ use Rattle.store_model.specs.Events.{Turn, act_of, object_bytes, outcome, outcom
 use Rattle.store_model.specs.Turns.{AreLawful}
 use Rattle.text_model.specs.Grammar.{IsAllowed}
 use Rattle.text_model.specs.Played.{AllGoOn, ArePlayed, AreAllowed, steps_of, GoesOn}
+use Rattle.store_laws.proofs.Deeds.{Deed}
 use Rattle.store_laws.proofs.Every.{EveryWorld}
 use Rattle.store_laws.proofs.Sound.{IsSound}
 use Rattle.store_laws.proofs.Starting.{start_sound}
@@ -103,7 +104,7 @@ given_whole s n c d whole differ lawful =
       | false ↦ none_whole c d differ
     ] lawful.2
 
-module _ {H : List ℕ → Type 0} (every : EveryWorld H) where
+module _ {H : Deed → Type 0} (every : EveryWorld H) where
   event_whole : (s : State) (e : Event) (c d : Decision) → AreWholeRoles s.world.roles → DifferInCut c d → IsLawfulAct s (act_of e d) → FitIn H s.world (outcome s e d).moves → IsSound H s → AreOfWholeKeys s.history → AreUnbroken (outcome s e c).lines
   event_whole s Trio c d whole differ lawful fits sound keyed = step_whole s.world step.Trio (plainly step.Trio).choice tt
   event_whole s (Block size) c d whole differ lawful fits sound keyed = tt
@@ -135,13 +136,13 @@ module _ {H : List ℕ → Type 0} (every : EveryWorld H) where
 -- ---- turns
 
 -- a state of such a run: what its invariant says, and that no key in its records and no staged zone holds a line feed
-record IsWhole (H : List ℕ → Type 0) (s : State) : Type 0 where
+record IsWhole (H : Deed → Type 0) (s : State) : Type 0 where
   pub sound : IsSound H s
   pub keyed : AreOfWholeKeys s.history
   pub zoned : AreWholeRoles s.world.roles
 
 -- nothing is hashed for walks that isn't among these strings: no law on digests is asked for
-abbrev pub Any : List ℕ → Type 0
+abbrev pub Any : Deed → Type 0
 Any x = ⊤
 
 module _ (stage : EventsStage) (every : EveryWorld Any) where

@@ -39,8 +39,9 @@ use object_schema::S3Schema;
 use store_anchors::promises_are_kept;
 use text_model::schedules_are_within_limits;
 use world_reads::{
-    every_installed_world_reads_what_was_kept, every_world_gives_windows,
-    every_world_has_kept_reads, every_world_is_sound, every_world_reads_stored_rows,
+    every_installed_world_reads_what_was_kept, every_world_collects_stored_objects,
+    every_world_gives_windows, every_world_has_kept_reads, every_world_is_sound,
+    every_world_reads_stored_rows, nothing_is_collected_without_collect,
 };
 
 /// A printed layout that is lawful for what is staged, its cut whatever light one, has the greatest partition size; and a layout
@@ -157,6 +158,8 @@ pub fn turns_tell_unbroken()
     every_world_reads_stored_rows::<S3Schema>();
     every_world_gives_windows::<S3Schema>();
     every_installed_world_reads_what_was_kept::<S3Schema>();
+    every_world_collects_stored_objects::<S3Schema>();
+    nothing_is_collected_without_collect::<S3Schema>();
 }
 
 /// So it is of the first turns of a schedule's events that are given lawful layouts which a transcript prints.

@@ -24,6 +24,7 @@ use Rattle.replay_run.specs.Account.{closing, IsText}
 use Rattle.replay_run.specs.Replay.{IsReplay, whole, sent}
 use Rattle.replay_run.proofs.Leading.{played_fits}
 use Rattle.replay_run.proofs.Checked.{line_is_fresh}
+use Rattle.store_laws.proofs.Deeds.{turns_never_collect}
 use Rattle.store_anchors.specs.Promises.{WalksAreClear, KeepsPromises, EveryRunKeepsPromises}
 use Rattle.replay_command.specs.Answer.{IsAnswer, bad_line, many_events, replayed, IsOfReplay, Agree}
 use Rattle.replay_command.specs.Replay.{IsTranscribed, checked_transcript, IsChecked, IsAccounted, IsWhole, Replays}
@@ -84,7 +85,7 @@ plain_text turns text h = h.text_is ∙ ap (λ t. turns_text start turns ++ t) (
 -- and where all reads are fresh, with a check that says so
 check_is_fresh : (turns : List Turn) (text : List ℕ) → KeepsPromises (acts_of turns) → IsText Checked turns text → WalksAreClear (acts_of turns) → NoClash (run start turns).buckets → text ≡ checked_transcript turns
 check_is_fresh turns text kept h clear apart =
-    h.text_is ∙ ap (λ t. turns_text start turns ++ t) (h.ends.text_is ∙ ap (λ line. closing (length turns) (run start turns) line) (line_is_fresh (run start turns).history h.ends.line (kept.recorded clear apart) h.ends.is_line))
+    h.text_is ∙ ap (λ t. turns_text start turns ++ t) (h.ends.text_is ∙ ap (λ line. closing (length turns) (run start turns) line) (line_is_fresh (run start turns).history h.ends.line (kept.recorded clear (turns_never_collect turns) apart) h.ends.is_line))
 
 -- all of it
 module _ (kept : EveryRunKeepsPromises) (old new : Option (List ℕ)) (input text : List ℕ) where

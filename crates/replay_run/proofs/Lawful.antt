@@ -109,6 +109,7 @@ in_range (step.SyncAck n) meant = tt
 in_range (step.Clean n) meant = tt
 in_range (step.Work n) meant = tt
 in_range (step.Repair n) meant = tt
+in_range (step.Collect n) meant = tt
 in_range (step.Open n) meant = tt
 in_range (step.Phase q phase) meant = tt
 in_range (step.Close q) meant = tt

@@ -95,10 +95,11 @@ use Rattle.store_anchors.proofs.Laid.{HasUploaded, Stores, past, IsLaidIn}
 use Rattle.store_anchors.proofs.Steps.{HasPut, HasGot}
 use Rattle.store_anchors.proofs.Going.{asks_laid, opens_laid, scans_laid, fetches_laid, uploading_laid, completes_laid, block_laid, waits_laid, finishes_laid}
 use Rattle.store_laws.proofs.Hashing.{FitIn}
+use Rattle.store_laws.proofs.Deeds.{Deed, collects}
 
 -- what an outcome of this state comes to after these steps: the invariant holds, its lines tell of whole versions, and copies took what was written
-abbrev pub OutcomeLaid : (List ℕ → Type 0) → List Moving → State → Outcome → Type 0
-OutcomeLaid H ms s o = IsLaidIn H (ms ++ o.moves) o.state × Tells (past (ms ++ o.moves) o.state.world o.state.draws) o.lines × FollowsCopies ms s o
+abbrev pub OutcomeLaid : (Deed → Type 0) → List Moving → State → Outcome → Type 0
+OutcomeLaid H ms s o = IsLaidIn H (ms ++ o.moves) o.state × Tells (past (ms ++ o.moves) o.state.world o.state.draws) o.lines × FollowsCopies (¬ H collects) ms s o
 
 -- this is what was written as the version: what is stored beside the bytes, and these, if they aren't in blocks or no two of the blocks have one digest
 pub record IsBodyOf (blocks : List (List ℕ)) (draws : List Draw) (v : Version) (meta : Meta) (body : List ℕ) : Type 0 where
@@ -108,9 +109,9 @@ pub record IsBodyOf (blocks : List (List ℕ)) (draws : List Draw) (v : Version)
   pub body_is : (is_long content.body ≡ true → NoClash blocks) → body ≡ content.body
 
 -- request p ended superseded with this identifier: the version was overwritten, and it is one of the source where the request is a copy
-pub record EndsRightly (moves : List Moving) (s : State) (p id : ℕ) : Type 0 where
+pub record EndsRightly (C : Type 0) (moves : List Moving) (s : State) (p id : ℕ) : Type 0 where
   pub replaced : IsReplaced (past moves s.world s.draws) s.asked p id
-  pub source : (copy : Copying) → copy.request ≡ p → IsFollowedIn moves s copy → IsOfSource s.draws copy id
+  pub source : (copy : Copying) → copy.request ≡ p → IsFollowedIn C moves s copy → IsOfSource s.draws copy id
 
 -- a request ends otherwise than superseded
 abbrev pub IsOtherwise : FlowEnd → Type 0
@@ -156,7 +157,7 @@ parts_same x y xs ys e = (cc, cc)
 none_more : {A : Type 0} (x : A) (xs : List A) → [] ≡ x ∷ xs → ⊥
 none_more x xs e = cc
 
-module _ {H : List ℕ → Type 0} where
+module _ {H : Deed → Type 0} where
   module _ (cited : Cited H) (moves : List Moving) (s : State) (q : ℕ) (a : Asked) (at : numbered s.asked q ≡ Some a) (rests : Rests s q) (block : ℕ) (laid : IsLaidIn H moves s) where
     -- what there is
     abbrev pub here : Past
@@ -168,7 +169,7 @@ module _ {H : List ℕ → Type 0} where
 
     -- the request is this copy
     abbrev pub IsIt : Copying → Type 0
-    IsIt copy = (copy.request ≡ q) × IsFollowedIn moves s copy
+    IsIt copy = (copy.request ≡ q) × IsFollowedIn (¬ H collects) moves s copy
 
     -- what the request knows where it is a copy
     know : (stage : Stage) → a.flow ≡ Some (flow_of q block stage) → (copy : Copying) → IsIt copy → Knows (blocks_of moves) s.draws copy stage
@@ -176,7 +177,7 @@ module _ {H : List ℕ → Type 0} where
 
     -- a copy follows where the request goes
     follows : (ds : List Draw) (flow : Option Flow) (rest : List Moving) → AllByRecursion (λ (d : Draw). d.request ≡ q) ds → ((copy : Copying) → IsIt copy → KnowsOn (blocks_of moves) s.draws s.asked s.history q a at ds flow copy) →
-        (copy : Copying) → IsFollowedIn moves s copy → IsFollowed (blocks_of (moves ++ rest)) (ds ++ s.draws) (set_flow s q a flow) s.history copy
+        (copy : Copying) → IsFollowedIn (¬ H collects) moves s copy → IsFollowed (¬ H collects) (blocks_of (moves ++ rest)) (ds ++ s.draws) (set_flow s q a flow) s.history copy
     follows ds flow rest own knows copy h =
         followed_first moves rest (ds ++ s.draws) (set_flow s q a flow) s.history copy
         (followed_set (blocks_of moves) s.draws s.asked s.history q a at ds flow own (λ copy request it. knows copy (request, it)) copy h)
@@ -196,7 +197,7 @@ module _ {H : List ℕ → Type 0} where
     pub goes : (stage : Stage) (phase : Phase AnyRow) → GoesLaid cited moves s q a at rests block laid [] stage phase → ((copy : Copying) → IsIt copy → Knows (blocks_of moves) s.draws copy stage) → StepLaid [] (More (flow_of q block stage) phase)
     goes stage phase h knows = draws_on [] stage phase h tt (λ copy it. (knows copy it, it.1.taken))
 
-    ends : (end : FlowEnd) → ((p id : ℕ) → record_of q end ≡ Ended p (WasSuperseded id) → EndsRightly moves s p id) → Tells here (lines_of_end q a.kind end) → StepLaid [] (End end)
+    ends : (end : FlowEnd) → ((p id : ℕ) → record_of q end ≡ Ended p (WasSuperseded id) → EndsRightly (¬ H collects) moves s p id) → Tells here (lines_of_end q a.kind end) → StepLaid [] (End end)
     ends end passed tells fits =
         let m : Moving = plainly (step.Close q) in (
           finishes_laid cited moves s q a at rests block laid end (λ p id e. (passed p id e).replaced) fits,
@@ -306,14 +307,14 @@ module _ {H : List ℕ → Type 0} where
     -- a request whose version's row was deleted
     superseded : (aim : Aim) (v : Version) → FoundSource v aim → IsOwn v → IsPassed here v.id → StepLaid [] (End (Superseded v.id))
     superseded aim v source own passed =
-        let mine : EndsRightly moves s q v.id = record {
+        let mine : EndsRightly (¬ H collects) moves s q v.id = record {
           replaced = record { passed = passed; kind = a.kind; name = a.name; was_asked = record { one = a; is_there = at; kind_is = refl; name_is = refl }; own = own passed };
           source = λ copy is h. record { version = v; found = (source copy (is, h)).0; id_is = refl };
         } in
         ends (Superseded v.id) (λ p id e. (
         let request : q ≡ p = cc in
         let same : v.id ≡ id = cc in
-        subst (λ (r : ℕ). EndsRightly moves s r id) request (subst (EndsRightly moves s q) same mine))) (tells_one here (HasEnded q EndedSo) (λ clash. tt))
+        subst (λ (r : ℕ). EndsRightly (¬ H collects) moves s r id) request (subst (EndsRightly (¬ H collects) moves s q) same mine))) (tells_one here (HasEnded q EndedSo) (λ clash. tt))
 
     opened_laid : AreApart s.draws → (aim : Aim) (v : Version) (meta : Meta) (value : Option AnyRow) → IsAimOf a aim → FoundSource v aim → IsOwn v → (f : IsFound here v meta) →
         (named_by value meta.size ≡ whole (named_pieces f.draw.block f.content.body 0 (suc f.last))) ⊎ ((named_by value meta.size ≡ deleted) × IsPassed here v.id) → StepLaid [] (opened q block aim v meta (named_by value meta.size))
@@ -432,11 +433,11 @@ abbrev pub HasReadIf : State → ℕ → PhaseEnd AnyRow → Type 0
 HasReadIf s q (Answered value) = HasRead s.asked s.history s.world.reads q value
 HasReadIf s q _ = ⊤
 
-pub read_of : (H : List ℕ → Type 0) (s : State) (q : ℕ) (end : PhaseEnd AnyRow) → IsEnd H s.asked s.draws s.history s.saw s.world.kept s.world.reads q end → HasReadIf s q end
+pub read_of : (H : Deed → Type 0) (s : State) (q : ℕ) (end : PhaseEnd AnyRow) → IsEnd H s.asked s.draws s.history s.saw s.world.kept s.world.reads q end → HasReadIf s q end
 read_of H s q (Answered value) h = h
 read_of H s q _ h = tt
 
-module _ {H : List ℕ → Type 0} where
+module _ {H : Deed → Type 0} where
   module _ (cited : Cited H) (moves : List Moving) (s : State) (q : ℕ) (a : Asked) (at : numbered s.asked q ≡ Some a) (rests : Rests s q) (block : ℕ) (sound : IsSound H s) (apart : AreApart s.draws) (fated : IsFatedIn moves s) (laid : IsLaidIn H moves s) where
     -- what a request does that waits so when its phase ends so
     abbrev pub StageLaid : ℕ → Stage → PhaseEnd AnyRow → Type 0
@@ -461,7 +462,7 @@ module _ {H : List ℕ → Type 0} where
           let cut : s.history ≡ copy.history ++ began q b.node b.kind b.name ∷ b.after = subst (λ (r : ℕ). s.history ≡ copy.history ++ began r b.node b.kind b.name ∷ b.after) it.0 b.cut in (
             subst (λ (n : Name). FoundIn s.draws n v) k.0 f,
             k.1,
-            λ w ack. not_below cited moves s sound laid q a at block name aim flow_is value end copy.history b.after b.node b.kind b.name cut said v e one w (subst (λ (n : Name). WasAcknowledged copy.history n w) (sym k.0) ack),
+            λ w ack. not_below cited moves s sound laid q a at block name aim flow_is value end it.1.holds copy.history b.after b.node b.kind b.name cut said v e one w (subst (λ (n : Name). WasAcknowledged copy.history n w) (sym k.0) ack),
           )
 
       read_source : (said : Said) → said_of value ≡ said → SaysSource cited moves s q a at rests block laid said aim

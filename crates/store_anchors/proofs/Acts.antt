@@ -83,9 +83,10 @@ use Rattle.store_anchors.proofs.Steps.{HasGot, calm_got, calm_now, calm_laid, be
 use Rattle.store_anchors.proofs.Going.{BeginsSo, read_begins, range_begins}
 use Rattle.store_anchors.proofs.Acting.{OutcomeLaid, stage_laid, read_of}
 use Rattle.store_laws.proofs.Hashing.{FitIn, ActsIn, in_parts}
+use Rattle.store_laws.proofs.Deeds.{Deed, collects}
 
 -- what holds after acts
-pub record IsHeld (H : List ℕ → Type 0) (ms : List Moving) (s : State) : Type 0 where
+pub record IsHeld (H : Deed → Type 0) (ms : List Moving) (s : State) : Type 0 where
   pub sound : IsSound H s
   pub once : IsOnceIn s
   pub laid : IsLaidIn H ms s
@@ -99,7 +100,7 @@ began_is_no_end q n o p id e = cc
 nothing_fated : (ms : List Moving) (s : State) → IsFatedIn ms s → IsFated (stored_in (ms ++ [])) s.asked s.draws
 nothing_fated ms s fated = subst (λ (k : List Moving). IsFated (stored_in k) s.asked s.draws) (sym (append-nil ms)) fated
 
-module _ {H : List ℕ → Type 0} where
+module _ {H : Deed → Type 0} where
   -- draws with one identifier are of one write
   pub draws_apart : (s : State) → IsSound H s → IsOnceIn s → AreApart s.draws
   draws_apart s sound once d e c k same = once.one d e c k (sym (sound.drawn d c).id_is ∙ (same ∙ (sound.drawn e k).id_is))
@@ -434,7 +435,7 @@ module _ {H : List ℕ → Type 0} where
     ActsHeld ms s as' =
         let end : State = after_acts s as' in
         IsHeld H (ms ++ moves_in s as') end × Tells (past (ms ++ moves_in s as') end.world end.draws) (lines_told s as') ×
-        ((copy : Copying) → IsFollowedIn ms s copy → IsFollowedIn (ms ++ moves_in s as') end copy)
+        ((copy : Copying) → IsFollowedIn (¬ H collects) ms s copy → IsFollowedIn (¬ H collects) (ms ++ moves_in s as') end copy)
 
     pub acts_held : (ms : List Moving) (s : State) (as' : List Act) → AreLawfulActs s as' → ActsIn H s as' → IsHeld H ms s → ActsHeld ms s as'
     acts_held ms s [] lawful fit h =
@@ -454,7 +455,7 @@ module _ {H : List ℕ → Type 0} where
     pub start_laid : IsLaidIn H [] start
     start_laid = record {
       room = lit< tt;
-      reached = record { before = []; begin = empty; begun = inl (refl, refl); moves = []; lawful = tt; alike = alike_same empty; before_are = All-nil _; are = All-nil _; hashed_before = λ x h. absurd h; hashed = λ x h. absurd h };
+      reached = record { before = []; begin = empty; begun = inl (refl, refl); moves = []; lawful = tt; alike = alike_same empty; before_are = All-nil _; are = All-nil _; done_before = λ d h. absurd h; done = λ d h. absurd h };
       stored = All-nil _;
       kept = λ r c. absurd (none_in r c);
       stages = λ q a flow at is. absurd (no_entry q a at);

@@ -72,6 +72,7 @@ use Rattle.store_anchors.proofs.Staying.{FirstEnded}
 use Rattle.store_anchors.proofs.Steps.{HasGot, calm_got, calm_now, calm_laid, laid_different}
 use Rattle.store_anchors.proofs.Told.{AreApart}
 use Rattle.store_laws.proofs.Hashing.{FitIn, ActsIn, in_parts}
+use Rattle.store_laws.proofs.Deeds.{Deed}
 
 -- ---- what a request does next
 
@@ -127,7 +128,7 @@ module _ (id block : ℕ) where
         | false ↦ tt
       ]
 
-module _ {H : List ℕ → Type 0} where
+module _ {H : Deed → Type 0} where
   module _ (cited : Cited H) (moves : List Moving) (s : State) (q : ℕ) (a : Asked) (at : numbered s.asked q ≡ Some a) (block : ℕ) (sound : IsSound H s) (apart : AreApart s.draws) (fated : IsFatedIn moves s) (laid : IsLaidIn H moves s) where
     -- no request waits on when its phase has ended
     pub going : (now : ℕ) (stage : Stage) (end : PhaseEnd AnyRow) → a.flow ≡ Some (flow_of q block stage) → HasGot s.asked (past moves s.world s.draws) s.world.reads q end → IsGoing (flow_goes_on q block stage end now)
@@ -202,7 +203,7 @@ takes_busy s q a ds (End end) at h placed rest =
     let k = close_kept s.world placed (OtherNeeds s.asked q) q (λ n c there is. own_or_other s.asked q c.request (rest n c there is)) in
     record { placed = k.places; rests = λ n c there is. other_set s.asked q c.request a None at (k.rests n c there is) }
 
-module _ {H : List ℕ → Type 0} where
+module _ {H : Deed → Type 0} where
   module _ (cited : Cited H) where
     follows_busy : (ms : List Moving) (s : State) (q : ℕ) (a : Asked) (flow : Flow) → numbered s.asked q ≡ Some a → IsSound H s → AreApart s.draws → IsFatedIn ms s → IsLaidIn H ms s → (end : PhaseEnd AnyRow) → a.flow ≡ Some flow → HasGot s.asked (past ms s.world s.draws) s.world.reads q end →
         ArePlaced s.world.nodes s.world.requests → OnlyRest (MayRest s.asked q) s.world.nodes → IsBusy (follows s q a end (Some flow)).state

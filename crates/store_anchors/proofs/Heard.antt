@@ -42,6 +42,7 @@ use Rattle.store_anchors.proofs.Laid.{HasReceived, AreStored, past, IsLaidIn}
 use Rattle.store_anchors.proofs.Lines.{tells_none}
 use Rattle.store_anchors.proofs.Taking.{AreTaken, followed_first}
 use Rattle.store_anchors.proofs.Told.{complete_given_up}
+use Rattle.store_laws.proofs.Deeds.{Deed}
 
 -- a draw of a copy took what was written before it
 taken_there : (blocks : List (List ℕ)) (copy : Copying) (draws : List Draw) (d : Draw) → Contains draws d → AreTaken blocks copy draws → d.request ≡ copy.request → (older : List Draw) × IsTaken blocks older copy d.wish
@@ -56,7 +57,7 @@ needed_so : (is_open : Bool) (o : Option ℕ) (n : ℕ) → (if is_open then o e
 needed_so true o n e = e
 needed_so false o n e = cc
 
-module _ {H : List ℕ → Type 0} where
+module _ {H : Deed → Type 0} where
   module _ (cited : Cited H) (ms : List Moving) (s : State) (q : ℕ) (a : Asked) (at : numbered s.asked q ≡ Some a) (sound : IsSound H s) (once : IsOnceIn s) (fated : IsFatedIn ms s) (laid : IsLaidIn H ms s) where
     module _ (block : ℕ) (name : Name) (v : Version) (coming : Coming) (received : List ℕ) (flow_is : a.flow ≡ Some (flow_of q block (Needing name v coming received))) where
       abbrev f : Flow

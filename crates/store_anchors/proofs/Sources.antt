@@ -32,8 +32,9 @@ use Rattle.store_laws.proofs.Values.{given_good, says_row}
 use Rattle.store_anchors.proofs.Cited.{Cited}
 use Rattle.store_anchors.proofs.Laid.{IsLaidIn}
 use Rattle.store_anchors.proofs.Reading.{gave}
+use Rattle.store_laws.proofs.Deeds.{Deed, collects}
 
-module _ {H : List ℕ → Type 0} where
+module _ {H : Deed → Type 0} where
   module _ (cited : Cited H) (moves : List Moving) (s : State) (sound : IsSound H s) (laid : IsLaidIn H moves s) (q : ℕ) (a : Asked) (at : numbered s.asked q ≡ Some a) (block : ℕ) (name : Name) (aim : Aim) (flow_is : a.flow ≡ Some (flow_of q block (Looking name aim))) (value : Option AnyRow) (h : HasRead s.asked s.history s.world.reads q value) where
     -- the row that it asked for is the object's
     asks : AsksRow name h.question
@@ -64,20 +65,20 @@ module _ {H : List ℕ → Type 0} where
     by_kind w (rows.Version r) e c = absurd c
     by_kind w (rows.Ref r) e c = absurd c
 
-    -- it is an object's row, which covers what was acknowledged before
-    covered : (before after : List Record) (n : ℕ) (kind : Kind) (own : Name) (w : Version) → s.history ≡ before ++ began q n kind own ∷ after → WasAcknowledged before name w → (r : ObjectRow) × (value ≡ Some (rows.Object r)) × CoversIn r w
-    covered before after n kind own w cut ack =
+    -- where nothing is collected, it is an object's row, which covers what was acknowledged before
+    covered : ¬ H collects → (before after : List Record) (n : ℕ) (kind : Kind) (own : Name) (w : Version) → s.history ≡ before ++ began q n kind own ∷ after → WasAcknowledged before name w → (r : ObjectRow) × (value ≡ Some (rows.Object r)) × CoversIn r w
+    covered never before after n kind own w cut ack =
         let k : HasKept h.question.kept name w = h.is_asking.has before after n kind own cut name w ack in
-        let over : IsOver any_join words value (row_at any_join words h.question.kept h.question.table h.question.key) = reached_kept cited.every s.world sound.reached cited.clear (read h.question value) h.is_there in
+        let over : IsOver any_join words value (row_at any_join words h.question.kept h.question.table h.question.key) = reached_kept cited.every s.world sound.reached (record { apart = cited.clear; never = never }) (read h.question value) h.is_there in
         let over_row : IsOver any_join words value (row_at any_join words h.question.kept 1 (row_key name)) =
         subst (λ (i : List ℕ). IsOver any_join words value (row_at any_join words h.question.kept 1 i)) asks.1 (subst (λ (t : ℕ). IsOver any_join words value (row_at any_join words h.question.kept t h.question.key)) asks.0 over) in
         let c = covers name w k.block k.wish s.draws h.question.kept value h.is_asking.proper k.is_there over_row value_known in
         by_kind w c.0 c.1 c.2
 
     -- so the version that is said is not below that
-    pub not_below : (before after : List Record) (n : ℕ) (kind : Kind) (own : Name) → s.history ≡ before ++ began q n kind own ∷ after → (said : Said) (v : Version) → said_of value ≡ said → ((u : Version) → IsSaid u said → v ≡ u) →
+    pub not_below : ¬ H collects → (before after : List Record) (n : ℕ) (kind : Kind) (own : Name) → s.history ≡ before ++ began q n kind own ∷ after → (said : Said) (v : Version) → said_of value ≡ said → ((u : Version) → IsSaid u said → v ≡ u) →
         (w : Version) → WasAcknowledged before name w → ¬ Below v w
-    not_below before after n kind own cut said v e one w ack =
-        let c = covered before after n kind own w cut ack in
+    not_below never before after n kind own cut said v e one w ack =
+        let c = covered never before after n kind own w cut ack in
         let says : said_by c.0 ≡ said = sym (ap said_of c.1) ∙ e in
         subst (λ (u : Version). ¬ Below u w) (sym (one c.2.version (subst (IsSaid c.2.version) says c.2.says))) c.2.not_below

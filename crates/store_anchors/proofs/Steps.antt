@@ -51,6 +51,7 @@ use Rattle.store_anchors.proofs.Cited.{Cited}
 use Rattle.store_anchors.proofs.Laid.{digest, Holds, Stores, Asks, Gets, Awaits, AreRows, IsFit, past, past_after, after_grows, blocks_old, IsLaid, IsLaidIn, IsApt, IsStepOf, still_of, holds_later, fit_later, fit_continues, laid_step, laid_told, Scans}
 use Rattle.store_anchors.proofs.Phases.{phase_begun}
 use Rattle.store_laws.proofs.Hashing.{FitIn}
+use Rattle.store_laws.proofs.Deeds.{Deed}
 
 -- ---- a phase that ended
 
@@ -122,7 +123,7 @@ module _ (asked : List Asked) (old new : Past) (more : Grows old new) (keeps : L
 
 -- ---- a step in which no phase begins
 
-module _ {H : List ℕ → Type 0} where
+module _ {H : Deed → Type 0} where
   module _ (cited : Cited H) (moves : List Moving) (s : State) (m : Moving) (lawful : IsLawfulRun any_join words s.world (m ∷ [])) (calm : IsCalm s.world (effect s m)) (laid : IsLaidIn H moves s) where
     abbrev now : Past
     now = past_after moves s m

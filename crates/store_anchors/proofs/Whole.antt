@@ -13,8 +13,9 @@ use Rattle.store_anchors.proofs.Busy.{goes_on_always}
 use Rattle.store_anchors.proofs.Cited.{Cited}
 use Rattle.store_anchors.proofs.Acts.{held, told}
 use Rattle.store_laws.proofs.Hashing.{ActsIn}
+use Rattle.store_laws.proofs.Deeds.{Deed}
 
-module _ {H : List ℕ → Type 0} where
+module _ {H : Deed → Type 0} where
   module _ (cited : Cited H) (acts : List Act) (lawful : AreLawfulActs start acts) (fit : ActsIn H start acts) where
     pub rightly : IsRightlySuperseded acts
     rightly q id c =

@@ -58,6 +58,7 @@ use Rattle.store_laws.proofs.Values.{gave_drawn, version_end, given_good, read_w
 use Rattle.store_laws.proofs.Enders.{finishes_keeps, one_end, read_end, nothing_end, stored_end}
 use Rattle.store_laws.proofs.Going.{flow_of, waits_keeps, waits_for, writes_keeps, uploading_keeps, announcing_keeps, block_keeps, completes_keeps, draws_keeps, opens_keeps, fetches_keeps, scans_keeps}
 use Rattle.store_laws.proofs.Hashing.{FitIn}
+use Rattle.store_laws.proofs.Deeds.{Deed}
 
 -- a get or head names its own key
 own_get : (k : Kind) → k ≡ kind.Get → (mine key : List ℕ) → IsTrue (names k mine key) → mine ≡ key
@@ -73,7 +74,7 @@ value_named draws (Some (rows.Object r)) size good = tt
 value_named draws (Some (rows.Version r)) size good = row_named r size (good (rows.Version r) refl).0
 value_named draws (Some (rows.Ref r)) size good = tt
 
-module _ {H : List ℕ → Type 0} where
+module _ {H : Deed → Type 0} where
   -- a number of a request is one of the code's
   pub number_fits : (s : State) (q : ℕ) (a : Asked) (e : Effect AnyRow) → numbered s.asked q ≡ Some a → IsSound H s → Fits words (applied s.world e) → q < 2 ^ 64
   number_fits s q a e at sound fits =
@@ -190,7 +191,7 @@ module _ {H : List ℕ → Type 0} where
 
 -- ---- a phase ended
 
-module _ {H : List ℕ → Type 0} where
+module _ {H : Deed → Type 0} where
   module _ (every : EveryWorld H) (s : State) (q : ℕ) (a : Asked) (at : numbered s.asked q ≡ Some a) (rests : Rests s q) (block : ℕ) (sound : IsSound H s) where
     abbrev pub Keeps : Stage → PhaseEnd AnyRow → Type 0
     Keeps stage end =

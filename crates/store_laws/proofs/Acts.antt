@@ -55,10 +55,9 @@ use Rattle.store_laws.proofs.Starting.{start_sound, bucket_sound, block_sound, e
 use Rattle.store_laws.proofs.Going.{flow_of}
 use Rattle.store_laws.proofs.Acting.{stage_keeps}
 use Rattle.store_laws.proofs.Hearing.{feeding_keeps, keeping_keeps, giving_up_keeps}
-use Rattle.cluster_machine.specs.Hashes.{NoClash as NoTrieClash}
-use Rattle.store_laws.specs.Hashed.{ActsHash}
 use Rattle.store_laws.proofs.Hashing.{FitIn, fit_in, in_parts}
 use Rattle.std.proofs.Common.{inl, inr}
+use Rattle.store_laws.proofs.Deeds.{Deed, IsClear, ActsDo}
 
 -- steps that fit, in two parts
 pub fit_parts : {R : Type 0} (join : R → R → R) (ws : Words R) (w : Model R) (first rest : List (Doing R)) → FitAll join ws w (first ++ rest) → FitAll join ws w first × FitAll join ws (world_run join ws w first) rest
@@ -73,7 +72,7 @@ run_parts join ws w (m ∷ first) rest = run_parts join ws (world_next join ws w
 no_write : {k : Kind} → k ≡ kind.List → IsTrue (is_write k) → {A : Type 0} → A
 no_write e w = (let no : IsTrue (is_write kind.List) = subst (λ (k : Kind). IsTrue (is_write k)) e w in cc)
 
-module _ {H : List ℕ → Type 0} where
+module _ {H : Deed → Type 0} where
   module _ (every : EveryWorld H) where
     -- ---- deliveries
 
@@ -219,6 +218,7 @@ module _ {H : List ℕ → Type 0} where
     outer_calm (step.Clean n) h = (tt, tt, refl)
     outer_calm (step.Work n) h = (tt, tt, refl)
     outer_calm (step.Repair n) h = (tt, tt, refl)
+    outer_calm (step.Collect n) h = (tt, tt, refl)
     outer_calm (step.Open n) h = absurd h
     outer_calm (step.Phase q phase) h = absurd h
     outer_calm (step.Close q) h = absurd h
@@ -251,10 +251,10 @@ module _ {H : List ℕ → Type 0} where
     act_keeps s (keeps q) lawful fits sound = keeping_keeps every s q sound fits
     act_keeps s (gives_up q) lawful fits sound = giving_up_keeps every s q sound fits
 
-    pub acts_keep : (s : State) (as' : List Act) → AreLawfulActs s as' → ActsFit s as' → ((x : List ℕ) → ActsHash s as' x → H x) → IsSound H s → IsSound H (after_acts s as')
+    pub acts_keep : (s : State) (as' : List Act) → AreLawfulActs s as' → ActsFit s as' → ((d : Deed) → ActsDo s as' d → H d) → IsSound H s → IsSound H (after_acts s as')
     acts_keep s [] lawful fit all sound = sound
     acts_keep s (a ∷ as') lawful fit all sound =
         acts_keep (acted s a).state as' lawful.1 fit.1 (λ x h. all x (inr h)) (act_keeps s a lawful.0 (fit_in H s.world (acted s a).moves fit.0 (λ x h. all x (inl h))) sound)
 
-    pub acts_fresh : (as' : List Act) → AreLawfulActs start as' → ActsFit start as' → ((x : List ℕ) → ActsHash start as' x → H x) → NoTrieClash H → IsFresh (after_acts start as')
+    pub acts_fresh : (as' : List Act) → AreLawfulActs start as' → ActsFit start as' → ((d : Deed) → ActsDo start as' d → H d) → IsClear H → IsFresh (after_acts start as')
     acts_fresh as' lawful fit all clear = (acts_keep start as' lawful fit all start_sound).fresh clear

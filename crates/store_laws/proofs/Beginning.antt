@@ -32,6 +32,7 @@ use Rattle.store_laws.proofs.Sound.{began, WasAcknowledged, IsProper, AreProper,
 use Rattle.store_laws.proofs.Ends.{asked_of}
 use Rattle.store_laws.proofs.Grown.{IsStill}
 use Rattle.store_laws.proofs.Stepping.{IsFine, fine_still, fine_one, fine_cond}
+use Rattle.store_laws.proofs.Deeds.{Deed}
 
 -- what was acknowledged in a part of the history
 acknowledged_part : (before rest : List Record) (name : Name) (version : Version) → WasAcknowledged before name version → WasAcknowledged (before ++ rest) name version
@@ -44,7 +45,7 @@ acknowledged_part before rest name version a = record {
   has_finished = Contains-append_left before rest _ a.has_finished;
 }
 
-module _ {H : List ℕ → Type 0} where
+module _ {H : Deed → Type 0} where
   module _ (s : State) (sound : IsSound H s) (differ : (n : ℕ) → AreDifferent (s.world.nodes n).calls) (q : ℕ) (a : Asked) (flow : Flow) (at : numbered s.asked q ≡ Some a) (flow_is : a.flow ≡ Some flow) (has_phase : HasPhase flow.stage) where
     still_at : (n : ℕ) → AskedAt s.asked n q → IsStill s.asked n q flow
     still_at n h =

@@ -18,9 +18,10 @@ use Rattle.store_model.specs.Run.{State, Asked}
 use Rattle.store_laws.proofs.Sound.{began, IsAsked, WasAcknowledged, HasKept, Drew, IsFreshEnd, IsSound}
 use Rattle.store_laws.proofs.Freshness.{fresh_told}
 use Rattle.store_laws.proofs.Grown.{present_told, stage_told, drawn_told}
+use Rattle.store_laws.proofs.Deeds.{Deed}
 
 -- what a request owes that finishes now with this answer
-pub record IsEndOf (H : List ℕ → Type 0) (s : State) (q : ℕ) (a : Answer) : Type 0 where
+pub record IsEndOf (H : Deed → Type 0) (s : State) (q : ℕ) (a : Answer) : Type 0 where
   pub one : Asked
   pub is_there : numbered s.asked q ≡ Some one
   pub fresh : IsFreshEnd H s q a
@@ -28,7 +29,7 @@ pub record IsEndOf (H : List ℕ → Type 0) (s : State) (q : ℕ) (a : Answer) 
 
 -- ---- a record that begins nothing
 
-module _ {H : List ℕ → Type 0} where
+module _ {H : Deed → Type 0} where
   module _ (s : State) (x : Record) (never : (q n : ℕ) (kind : Kind) (name : Name) → x ≡ began q n kind name → ⊥) (ends : (q : ℕ) (a : Answer) → x ≡ Finished q a → IsEndOf H s q a) (sound : IsSound H s) where
     begun_before : (q n : ℕ) (kind : Kind) (name : Name) → Contains (s.history ++ x ∷ []) (began q n kind name) → Contains s.history (began q n kind name)
     begun_before q n kind name c = elim (Contains-push_cases s.history x (began q n kind name) c) [

@@ -17,16 +17,17 @@ use Rattle.store_laws.proofs.Freshness.{fresh_later}
 use Rattle.store_laws.proofs.Rows.{IsOf}
 use Rattle.store_laws.proofs.Grown.{Rests, presents_set, present_drawn, present_seen, stage_drawn, asked_set, answered_drawn, saw_drawn}
 use Rattle.store_laws.proofs.Reached.{reached_draws}
+use Rattle.store_laws.proofs.Deeds.{Deed}
 
 -- the request waits for this, and drew these versions
 abbrev pub waiting : State → ℕ → Asked → Option Flow → List Draw → State
 waiting s q a flow newer = record s { asked = set_flow s q a flow; draws = newer ++ s.draws }
 
 -- what a request may wait for
-abbrev pub MayWait : (List ℕ → Type 0) → List Draw → List Record → ℕ → Asked → Option Flow → Type 0
+abbrev pub MayWait : (Deed → Type 0) → List Draw → List Record → ℕ → Asked → Option Flow → Type 0
 MayWait H draws history q a flow = (f : Flow) → flow ≡ Some f → (f.id ≡ q) × IsStage H draws history q a f.stage
 
-module _ {H : List ℕ → Type 0} where
+module _ {H : Deed → Type 0} where
   pub waiting_sound : (s : State) (q : ℕ) (a : Asked) (flow : Option Flow) (newer : List Draw) → numbered s.asked q ≡ Some a → Rests s q → MayWait H (newer ++ s.draws) s.history q a flow →
       ((d : Draw) → Contains newer d → HasDrawn s.buckets s.history d) → IsSound H s → IsSound H (waiting s q a flow newer)
   waiting_sound s q a flow newer at rests may drawn sound =

@@ -18,8 +18,8 @@ use Rattle.store_model.specs.Fresh.{IsMarked, Covers, IsDrawn, HasDeleted, NoCla
 use Rattle.machine_origins.proofs.Places.{get_append}
 use Rattle.store_laws.proofs.Records.{in_front, finish_is, finish_cases, acknowledged_is, split, old_at, began_before, acknowledged_before}
 use Rattle.store_laws.proofs.Rows.{marker_drawn}
-use Rattle.cluster_machine.specs.Hashes.{NoClash as NoTrieClash}
 use Rattle.store_laws.proofs.Sound.{began, IsWishOf, WasAcknowledged, DrewHere, IsFreshEnd, IsSound}
+use Rattle.store_laws.proofs.Deeds.{Deed, IsClear}
 
 -- ---- what was seen and drawn stays so
 
@@ -119,7 +119,7 @@ was_acknowledged h i bucket key w within a =
       has_finished = in_front h a.end i _ is.0 a.before within;
     }
 
-module _ {H : List ℕ → Type 0} where
+module _ {H : Deed → Type 0} where
   -- a marker that a phase gave was drawn, by a delete of this very object
   marked_deleted : (s : State) (q : ℕ) (bucket key : List ℕ) (w : Version) → IsSound H s → NoClash s.buckets → Contains s.buckets bucket → IsMarked s.saw q bucket key w → HasDeleted s (length s.history) bucket key w
   marked_deleted s q bucket key w sound clash is_bucket m =
@@ -147,7 +147,7 @@ module _ {H : List ℕ → Type 0} where
       subst (λ (m : Name). Contains s.buckets m.bucket) asked.name_is (sound.told.bucket_there q asked.one asked.is_there)
 
   -- fresh, if what the new record finishes is
-  pub fresh_told : (s : State) (x : Record) → IsSound H s → NoTrieClash H → ((q : ℕ) (a : Answer) → x ≡ Finished q a → IsFreshEnd H s q a) → IsFresh (record s { history = s.history ++ x ∷ [] })
+  pub fresh_told : (s : State) (x : Record) → IsSound H s → IsClear H → ((q : ℕ) (a : Answer) → x ≡ Finished q a → IsFreshEnd H s q a) → IsFresh (record s { history = s.history ++ x ∷ [] })
   fresh_told s x sound clear ends i j q kind bucket own a r =
       let h : List Record = s.history in
       let t : State = record s { history = h ++ x ∷ [] } in

@@ -49,12 +49,13 @@ use Rattle.store_laws.proofs.Beginning.{reads_fine, asks_fine, stores_fine, fetc
 use Rattle.store_laws.proofs.Flows.{waiting, waiting_sound}
 use Rattle.store_laws.proofs.Enders.{wish_writes}
 use Rattle.store_laws.proofs.Hashing.{FitIn}
+use Rattle.store_laws.proofs.Deeds.{Deed}
 
 -- the flow with its number
 abbrev pub flow_of : ℕ → ℕ → Stage → Flow
 flow_of q block stage = record { id = q; block = block; stage = stage }
 
-module _ {H : List ℕ → Type 0} where
+module _ {H : Deed → Type 0} where
   module _ (every : EveryWorld H) (s : State) (q : ℕ) (a : Asked) (at : numbered s.asked q ≡ Some a) (rests : Rests s q) (block : ℕ) where
     -- the request goes on waiting
     pub waits_keeps : (stage : Stage) → a.flow ≡ Some (flow_of q block stage) → IsSound H s → IsSound H (record s { asked = set_flow s q a (Some (flow_of q block stage)) })

@@ -16,8 +16,9 @@ use Rattle.store_laws.proofs.Ends.{rests_or_waits}
 use Rattle.store_laws.proofs.Going.{flow_of, fed_keeps, kept_keeps, given_up_keeps}
 use Rattle.store_laws.proofs.Acting.{number_fits}
 use Rattle.store_laws.proofs.Hashing.{FitIn}
+use Rattle.store_laws.proofs.Deeds.{Deed}
 
-module _ {H : List ℕ → Type 0} where
+module _ {H : Deed → Type 0} where
   module _ (every : EveryWorld H) (s : State) (q : ℕ) (a : Asked) (at : numbered s.asked q ≡ Some a) (sound : IsSound H s) where
     -- a request that needs its client has no phase
     pub needing_rests : (flow : Flow) → a.flow ≡ Some flow → (HasPhase flow.stage → ⊥) → Rests s q

@@ -41,10 +41,10 @@ use Rattle.store_laws.proofs.Covering.{IsSaid, CoversIn, CoversRow, covers}
 use Rattle.store_laws.proofs.Good.{IsGood}
 use Rattle.store_laws.proofs.Orders.{past_front, begins_front, within_front, at_parts, found_itself}
 use Rattle.store_laws.proofs.Reached.{reached_kept, reached_good, reached_window}
-use Rattle.cluster_machine.specs.Hashes.{NoClash as NoTrieClash}
 use Rattle.store_laws.proofs.Sound.{began, WasAcknowledged, HasKept, HasBefore, AreProper, HasFound, listed, HasRow, IsShown, HasShown, IsFreshEnd, IsSound}
 use Rattle.store_laws.proofs.Values.{is_own, drew_here}
 use Rattle.machine_origins.specs.Windows.{IsWindow}
+use Rattle.store_laws.proofs.Deeds.{Deed, IsClear}
 
 -- ---- what is said of an object
 
@@ -118,7 +118,7 @@ passes (x ∷ xs) r t c = elim (cons_cases x xs r c) [
 
 -- ---- a window
 
-module _ {H : List ℕ → Type 0} where
+module _ {H : Deed → Type 0} where
   module _ (every : EveryWorld H) (s : State) (q : ℕ) (sound : IsSound H s) (bucket prefix : List ℕ) (shown_so_far : List ObjectRow) (others : List AnyRow) (end : Option (List ℕ)) (scan : Scan AnyRow)
       (read : Contains s.world.reads (scanned scan others end)) (position : scan.position ≡ (digest_of bucket).0) (prefix_is : scan.prefix ≡ prefix) (has : HasBefore s.history q scan.kept) (proper : AreProper scan.kept) where
     abbrev pub own : Name
@@ -147,7 +147,7 @@ module _ {H : List ℕ → Type 0} where
     object_of w (rows.Ref r) c = absurd c
 
     -- what the window has at the key of an object that was kept before
-    at_key : NoTrieClash H → (key : List ℕ) (w : Version) → IsNamedKey (row_key (listed own key)) → HasKept scan.kept (listed own key) w → (r : ObjectRow) × (find_row words 1 (row_key (listed own key)) others ≡ Some (rows.Object r)) × CoversIn r w
+    at_key : IsClear H → (key : List ℕ) (w : Version) → IsNamedKey (row_key (listed own key)) → HasKept scan.kept (listed own key) w → (r : ObjectRow) × (find_row words 1 (row_key (listed own key)) others ≡ Some (rows.Object r)) × CoversIn r w
     at_key clear key w named k =
         let name : Name = listed own key in
         let over : IsOver any_join words (find_row words 1 (row_key name) others) (row_at any_join words scan.kept 1 (row_key name)) = reached_kept every s.world sound.reached clear (scanned scan others end) read (row_key name) named in
@@ -203,7 +203,7 @@ module _ {H : List ℕ → Type 0} where
       shown_now = shown_so_far ++ shown_rows others
 
       -- an object at a key that the window names
-      new_covers : NoTrieClash H → (key : List ℕ) (w : Version) → IsNamedKey (row_key (listed own key)) → HasKept scan.kept (listed own key) w → HasRow shown_now key ⊎ IsMarked s.saw q bucket key w
+      new_covers : IsClear H → (key : List ℕ) (w : Version) → IsNamedKey (row_key (listed own key)) → HasKept scan.kept (listed own key) w → HasRow shown_now key ⊎ IsMarked s.saw q bucket key w
       new_covers clear key w named k =
           let at = at_key clear key w named k in
           let r : ObjectRow = at.0 in
@@ -296,7 +296,7 @@ entry_of (x ∷ rs) r t c = elim (cons_cases x rs r c) [
 
 -- ---- a list that is done
 
-module _ {H : List ℕ → Type 0} where
+module _ {H : Deed → Type 0} where
   module _ (s : State) (q : ℕ) (a : Asked) (at : numbered s.asked q ≡ Some a) (sound : IsSound H s) (lists : a.kind ≡ kind.List) (shown : List ObjectRow) (h : HasShown H s.draws s.history s.saw q a.name shown None) where
     -- a key that the list names begins with its prefix
     begins : (k : Kind) (m : Name) (key : List ℕ) → (a.kind ≡ k) × (a.name ≡ m) → IsTrue (names k m.key key) → IsTrue (starts_with nat_eq key a.name.key)

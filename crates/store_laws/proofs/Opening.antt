@@ -32,7 +32,8 @@ use Rattle.store_laws.proofs.Sound.{StoresGood, began, IsTold, WasAcknowledged, 
 use Rattle.store_laws.proofs.Freshness.{fresh_later, fresh_told}
 use Rattle.store_laws.proofs.Grown.{IsNew, pushed_still, pushed_at, present_asked, present_told, stage_told, drawn_told, asked_told}
 use Rattle.store_laws.proofs.Reached.{reached_step}
-use Rattle.store_laws.proofs.Hashing.{HashesIn}
+use Rattle.store_laws.proofs.Hashing.{DoesIn}
+use Rattle.store_laws.proofs.Deeds.{Deed}
 
 -- the record that this request begins
 abbrev pub beginning : State → Asked → Record
@@ -46,7 +47,7 @@ opening s a = record s {
   history = s.history ++ beginning s a ∷ [];
 }
 
-module _ {H : List ℕ → Type 0} where
+module _ {H : Deed → Type 0} where
   -- the numbers of requests that were asked for are below the next
   next_new : (s : State) (a : Asked) → IsSound H s → IsNew s.asked (beginning s a)
   next_new s a sound q m k name o e h =
@@ -119,7 +120,7 @@ module _ {H : List ℕ → Type 0} where
       subst (λ (q : ℕ). Drew s.draws q version) old.1 (sound.answered name version old.0)
 
   pub opened_sound : (s : State) (a : Asked) (flow : Flow) → a.flow ≡ Some flow → flow.id ≡ suc (length s.world.requests) → IsStage H s.draws (s.history ++ beginning s a ∷ []) (suc (length s.world.requests)) a flow.stage → is_member_at layouts s.world a.node ≡ true →
-      Contains s.buckets a.name.bucket → (IsTrue (is_write a.kind) → 1 ≤ length a.name.key) → IsLawfulRun any_join words s.world (plainly (Open a.node) ∷ []) → HashesIn H s.world (plainly (Open a.node)) → IsSound H s → IsSound H (opening s a)
+      Contains s.buckets a.name.bucket → (IsTrue (is_write a.kind) → 1 ≤ length a.name.key) → IsLawfulRun any_join words s.world (plainly (Open a.node) ∷ []) → DoesIn H s.world (plainly (Open a.node)) → IsSound H s → IsSound H (opening s a)
   opened_sound s a flow flow_is id_is stage member bucket keyed lawful hashes sound =
       let q : ℕ = suc (length s.world.requests) in
       let n : ℕ = a.node in

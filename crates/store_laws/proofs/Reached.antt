@@ -13,7 +13,7 @@ use Rattle.cluster_machine.specs.declared.step.Step.TheVariants.{Deliver}
 use Rattle.cluster_machine.specs.Node.{Reading}
 use Rattle.cluster_machine.specs.World.{Sent, empty, forgot, forget_delivered}
 use Rattle.cluster_machine.specs.Choices.{IsFirst}
-use Rattle.cluster_machine.specs.Kept.{KeptReads}
+use Rattle.cluster_machine.specs.Kept.{GaveKept, KeptReads}
 use Rattle.cluster_machine.specs.Keeping.{AreDifferent}
 use Rattle.machine_origins.specs.Origins.{ComesFrom, Gave, stored_by, stored_in}
 use Rattle.machine_origins.proofs.ByOrigin.{stored_have, gave_by_origin}
@@ -28,26 +28,31 @@ use Rattle.store_laws.proofs.Good.{IsGood, more_good, good_inherited}
 use Rattle.store_laws.proofs.Sound.{IsReached, IsReachedBy}
 use Rattle.cluster_machine.specs.Hashes.{NoClash}
 use Rattle.std.specs.Prelude.{◌⊎◌}
-use Rattle.store_laws.specs.Hashed.{StepsHash}
-use Rattle.store_laws.proofs.Hashing.{OneHashes, HashesIn, hashed_more}
+use Rattle.store_laws.proofs.Hashing.{DoesIn, done_more}
 use Rattle.machine_origins.specs.Windows.{GaveWindow}
+use Rattle.store_laws.proofs.Deeds.{Deed, hashes, collects, IsClear, IsCollect, OneDoes, StepsDo, refused_other}
 
 -- each of these steps is so
 abbrev AreSo : (Step AnyRow → Type 0) → List Moving → Type 0
 AreSo IsSo moves = All (λ (m : Moving). IsSo m.step) moves
 
+-- a step beside it does no more
+does_no_more : (w v : World) (m : Moving) (s : StepsAlike w v m) (d : Deed) → OneDoes v s.move d → OneDoes w m d
+does_no_more w v m s (hashes x) h = s.hashes x h
+does_no_more w v m s collects h = elim s.step_is [ inl same ↦ subst IsCollect same h | inr refused ↦ absurd (refused_other s.move.step refused h) ]
+
 goes_on : (IsSo : Step AnyRow → Type 0) (begin : World) (moves : List Moving) (w : World) (m : Moving) → StepsAlike w (run any_join words begin moves) m → IsLawfulRun any_join words begin moves → IsSo m.step → IsSo (Deliver 0) → AreSo IsSo moves →
     (then : List Moving) × IsLawfulRun any_join words begin then × IsAlike (next any_join words w m) (run any_join words begin then) × AreSo IsSo then ×
-    ((x : List ℕ) → StepsHash begin then x → StepsHash begin moves x ⊎ OneHashes w m x)
+    ((d : Deed) → StepsDo begin then d → StepsDo begin moves d ⊎ OneDoes w m d)
 goes_on IsSo begin moves w m s lawful is none are = (
   moves ++ s.move ∷ [],
   lawful_more begin moves s.move lawful s.lawful,
   subst (IsAlike (next any_join words w m)) (sym (run_more begin moves s.move)) s.alike,
   All-push (λ (m : Moving). IsSo m.step) moves s.move are (elim s.step_is [ inl same ↦ subst IsSo (sym same) is | inr refused ↦ subst IsSo (sym refused) none ]),
-  λ x h. elim (hashed_more begin moves s.move x h) [ inl old ↦ inl old | inr new ↦ inr (s.hashes x new) ],
+  λ d h. elim (done_more begin moves s.move d h) [ inl old ↦ inl old | inr new ↦ inr (does_no_more w (run any_join words begin moves) m s d new) ],
 )
 
-module _ {H : List ℕ → Type 0} where
+module _ {H : Deed → Type 0} where
   -- a step more, beside one of the world in which nothing was forgotten
   pub reached_alike : {IsSo : Step AnyRow → Type 0} (w : World) (m : Moving) (r : IsReachedBy H IsSo w) → IsLawfulRun any_join words w (m ∷ []) → StepsAlike w (run any_join words r.begin r.moves) m
   reached_alike w m r lawful =
@@ -55,16 +60,16 @@ module _ {H : List ℕ → Type 0} where
       subst (λ (u : World). StepsAlike u v m) (sym r.alike.is) (step_alike v w.marks r.alike.marks m.step m.choice (subst (λ (u : World). IsLawfulRun any_join words u (m ∷ [])) r.alike.is lawful))
 
   -- it leads on where it is so, and a step that is refused is too
-  pub reached_step : (IsSo : Step AnyRow → Type 0) (w : World) (m : Moving) → IsReachedBy H IsSo w → IsLawfulRun any_join words w (m ∷ []) → HashesIn H w m → IsSo m.step → IsSo (Deliver 0) → IsReachedBy H IsSo (next any_join words w m)
-  reached_step IsSo w m r lawful hashes is none =
+  pub reached_step : (IsSo : Step AnyRow → Type 0) (w : World) (m : Moving) → IsReachedBy H IsSo w → IsLawfulRun any_join words w (m ∷ []) → DoesIn H w m → IsSo m.step → IsSo (Deliver 0) → IsReachedBy H IsSo (next any_join words w m)
+  reached_step IsSo w m r lawful does is none =
       let on = goes_on IsSo r.begin r.moves w m (reached_alike w m r lawful) r.lawful is none r.are in
-      record { before = r.before; begin = r.begin; begun = r.begun; moves = on.0; lawful = on.1; alike = on.2; before_are = r.before_are; are = on.3; hashed_before = r.hashed_before; hashed = λ x h. elim (on.4 x h) [ inl old ↦ r.hashed x old | inr new ↦ hashes x new ] }
+      record { before = r.before; begin = r.begin; begun = r.begun; moves = on.0; lawful = on.1; alike = on.2; before_are = r.before_are; are = on.3; done_before = r.done_before; done = λ d h. elim (on.4 d h) [ inl old ↦ r.done d old | inr new ↦ does d new ] }
 
   -- steps that are so are so in a weaker sense
   pub reached_weaker : {IsSo IsOther : Step AnyRow → Type 0} (w : World) → ((st : Step AnyRow) → IsSo st → IsOther st) → IsReachedBy H IsSo w → IsReachedBy H IsOther w
   reached_weaker {IsSo = IsSo} {IsOther = IsOther} w weaker r =
       let each : (moves : List Moving) → AreSo IsSo moves → AreSo IsOther moves = All-weaker (λ (m : Moving). IsSo m.step) (λ (m : Moving). IsOther m.step) (λ m is. weaker m.step is) in
-      record { before = r.before; begin = r.begin; begun = r.begun; moves = r.moves; lawful = r.lawful; alike = r.alike; before_are = each r.before r.before_are; are = each r.moves r.are; hashed_before = r.hashed_before; hashed = r.hashed }
+      record { before = r.before; begin = r.begin; begun = r.begun; moves = r.moves; lawful = r.lawful; alike = r.alike; before_are = each r.before r.before_are; are = each r.moves r.are; done_before = r.done_before; done = r.done }
 
   pub reached_draws : (draws newer : List Draw) (w : World) → IsReached H draws w → IsReached H (newer ++ draws) w
   reached_draws draws newer w r = reached_weaker w (λ st h. All-weaker (IsGood draws) (IsGood (newer ++ draws)) (more_good draws newer) (stored_by st) h) r
@@ -82,8 +87,8 @@ module _ {H : List ℕ → Type 0} where
         alike = record { is = ap (λ (u : World). record u { marks = map forgot w.marks }) r.alike.is; marks = keep_forgot w.marks v.marks r.alike.marks };
         before_are = r.before_are;
         are = r.are;
-        hashed_before = r.hashed_before;
-        hashed = r.hashed;
+        done_before = r.done_before;
+        done = r.done;
       }
 
   -- a first layout is installed where none was applied
@@ -108,8 +113,8 @@ module _ {H : List ℕ → Type 0} where
               alike = like;
               before_are = r.are;
               are = All-nil (λ (m : Moving). IsSo m.step);
-              hashed_before = λ x h. r.hashed x (subst (λ (u : World). StepsHash u r.moves x) (sym at_empty.1) h);
-              hashed = λ x h. absurd h;
+              done_before = λ d h. r.done d (subst (λ (u : World). StepsDo u r.moves d) (sym at_empty.1) h);
+              done = λ d h. absurd h;
             }
         | inr was ↦
             let more : r.begin.applied ≤ v.applied = applied_more any_join words was.first r.begin r.moves in
@@ -134,8 +139,21 @@ module _ {H : List ℕ → Type 0} where
     pub reached_are : AreSo IsSo (r.before ++ r.moves)
     reached_are = All-append (λ (m : Moving). IsSo m.step) r.before r.moves r.before_are r.are
 
-    pub reached_kept : NoClash H → KeptReads any_join words w
-    reached_kept clear = subst (KeptReads any_join words) (sym r.alike.is) (from.kept_reads clear r.moves r.lawful r.hashed_before r.hashed)
+    -- reads gave what was kept, or it was collected
+    pub reached_joined : NoClash (λ x. H (hashes x)) → KeptReads any_join words w
+    reached_joined apart = subst (KeptReads any_join words) (sym r.alike.is) (from.kept_reads apart r.moves r.lawful r.done_before r.done)
+
+    -- nothing is, where none of the deeds collects
+    reached_none : ¬ H collects → w.collected ≡ []
+    reached_none never = ap (λ (u : World). u.collected) r.alike.is ∙ from.nothing_collected never r.moves r.lawful r.done_before r.done
+
+    -- what was collected are object rows
+    pub reached_objects : (row : AnyRow) → Contains w.collected row → words.table row ≡ 1
+    reached_objects row c = (from.collected_objects r.moves r.lawful row (subst (λ (u : World). Contains u.collected row) r.alike.is c)).0
+
+    -- then reads gave what was kept
+    pub reached_kept : IsClear H → (reading : Reading AnyRow) → Contains w.reads reading → GaveKept any_join words [] reading
+    reached_kept clear reading c = subst (λ (collected : List AnyRow). GaveKept any_join words collected reading) (reached_none clear.never) (reached_joined clear.apart reading c)
 
     -- what a read gave comes from what they stored
     pub reached_stored : (reading : Reading AnyRow) → Contains w.reads reading → Gave words (ComesFrom any_join words (stored_in (r.before ++ r.moves))) reading

@@ -65,8 +65,8 @@ use Rattle.store_model.proofs.Leads.{goes_on_leads}
 use Rattle.store_laws.proofs.Acts.{delivers_keeps, act_keeps}
 use Rattle.store_laws.proofs.Once.{draws_differ}
 use Rattle.store_laws.proofs.Telling.{Tells, Grows, tells_later, tells_none, tells_one, tells_both, step_tells}
-use Rattle.store_laws.specs.Hashed.{ActsHash}
 use Rattle.store_laws.proofs.Hashing.{FitIn, fit_in, in_parts}
+use Rattle.store_laws.proofs.Deeds.{Deed, ActsDo}
 
 -- ---- how requests end
 
@@ -194,7 +194,7 @@ module _ (draws : List Draw) where
 
 -- ---- a phase ended
 
-module _ {H : List ℕ → Type 0} where
+module _ {H : Deed → Type 0} where
   module _ (every : EveryWorld H) (s : State) (q : ℕ) (a : Asked) (at : numbered s.asked q ≡ Some a) (sound : IsSound H s) where
     -- each row that a list has with this window was written
     window_says : (flow : Flow) (bucket prefix : List ℕ) (rows : List ObjectRow) (others : List AnyRow) (reach : Option (List ℕ)) → a.flow ≡ Some flow → flow.stage ≡ Listing bucket prefix rows →
@@ -323,7 +323,7 @@ pub acts_grow : (s : State) (as' : List Act) → Grows s.draws (after_acts s as'
 acts_grow s [] = λ d c. c
 acts_grow s (a ∷ as') = λ d c. acts_grow (acted s a).state as' d (act_grows s a d c)
 
-module _ {H : List ℕ → Type 0} where
+module _ {H : Deed → Type 0} where
   module _ (every : EveryWorld H) where
     follows_tell : (s : State) (q : ℕ) (a : Asked) → numbered s.asked q ≡ Some a → IsSound H s → (end : PhaseEnd AnyRow) (flow : Option Flow) → a.flow ≡ flow → IsEnd H s.asked s.draws s.history s.saw s.world.kept s.world.reads q end →
         HasTold (follows s q a end flow)
@@ -391,7 +391,7 @@ module _ {H : List ℕ → Type 0} where
     act_tells s (keeps q) fits sound = heard_tells (record s { draws = fills_at s q (numbered s.asked q) ++ s.draws }) q finished (numbered s.asked q)
     act_tells s (gives_up q) fits sound = heard_tells s q given_up (numbered s.asked q)
 
-    acts_tell : (s : State) (as' : List Act) → AreLawfulActs s as' → ActsFit s as' → ((x : List ℕ) → ActsHash s as' x → H x) → IsSound H s → Tells (after_acts s as').draws (lines_told s as')
+    acts_tell : (s : State) (as' : List Act) → AreLawfulActs s as' → ActsFit s as' → ((d : Deed) → ActsDo s as' d → H d) → IsSound H s → Tells (after_acts s as').draws (lines_told s as')
     acts_tell s [] lawful fit all sound = tells_none s.draws
     acts_tell s (a ∷ as') lawful fit all sound =
         let o : Outcome = acted s a in
@@ -400,5 +400,5 @@ module _ {H : List ℕ → Type 0} where
         tells_both end o.lines (lines_told o.state as') (tells_later o.state.draws end (acts_grow o.state as') o.lines (act_tells s a fits sound))
         (acts_tell o.state as' lawful.1 fit.1 (λ x h. all x (inr h)) (act_keeps every s a lawful.0 fits sound))
 
-    pub acts_written : (as' : List Act) → AreLawfulActs start as' → ActsFit start as' → ((x : List ℕ) → ActsHash start as' x → H x) → GivesWhatWasWritten as'
+    pub acts_written : (as' : List Act) → AreLawfulActs start as' → ActsFit start as' → ((d : Deed) → ActsDo start as' d → H d) → GivesWhatWasWritten as'
     acts_written as' lawful fit all = record { once = draws_differ every as' lawful fit all; lines = acts_tell start as' lawful fit all start_sound }

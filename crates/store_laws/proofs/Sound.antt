@@ -11,7 +11,6 @@ use Rattle.object_schema.specs.Schema.{words}
 use Rattle.cluster_machine.specs.Node.{Question, Scan, Present, resting, asking, scanning, storing, fetching, Call}
 use Rattle.cluster_machine.specs.World.{empty, numbered}
 use Rattle.cluster_machine.specs.declared.step.Step.{Step}
-use Rattle.cluster_machine.specs.Hashes.{NoClash as NoTrieClash}
 use Rattle.machine_origins.specs.Origins.{stored_by}
 use Rattle.cluster_machine.specs.Worlds.{IsLawfulRun, IsLawfulStart, run, start as first_world}
 use Rattle.history_model.specs.declared.record.Kind.{Kind}
@@ -42,7 +41,7 @@ use Rattle.flow_model.specs.Says.{is_shown, said_by}
 use Rattle.blake2_hash.specs.Hash.{digest_of}
 use Rattle.crdt_rows.specs.declared.object_row.ObjectRow.{ObjectRow}
 use Rattle.store_laws.proofs.Good.{IsGood}
-use Rattle.store_laws.specs.Hashed.{StepsHash}
+use Rattle.store_laws.proofs.Deeds.{Deed, IsClear, StepsDo}
 
 -- the rows that this step begins to store are good
 abbrev pub StoresGood : List Draw → Step AnyRow → Type 0
@@ -54,8 +53,8 @@ pub record IsInstalled (begin : World) (before : List Moving) : Type 0 where
   pub lawful : IsLawfulStart any_join words before first
   pub is : begin ≡ first_world any_join words before first
 
--- the world is one that lawful steps lead to, from the empty one or from one in which a layout was installed, but that messages were forgotten; each of the steps is so, and what was hashed for walks is among these strings
-pub record IsReachedBy (H : List ℕ → Type 0) (IsSo : Step AnyRow → Type 0) (w : World) : Type 0 where
+-- the world is one that lawful steps lead to, from the empty one or from one in which a layout was installed, but that messages were forgotten; each of the steps is so, and what they did is among these deeds
+pub record IsReachedBy (H : Deed → Type 0) (IsSo : Step AnyRow → Type 0) (w : World) : Type 0 where
   pub before : List Moving
   pub begin : World
   pub begun : ((before ≡ []) × (begin ≡ empty)) ⊎ IsInstalled begin before
@@ -63,12 +62,12 @@ pub record IsReachedBy (H : List ℕ → Type 0) (IsSo : Step AnyRow → Type 0)
   pub lawful : IsLawfulRun any_join words begin moves
   pub alike : IsAlike w (run any_join words begin moves)
   pub before_are : All (λ (m : Moving). IsSo m.step) before
-  pub hashed_before : (x : List ℕ) → StepsHash empty before x → H x
-  pub hashed : (x : List ℕ) → StepsHash begin moves x → H x
+  pub done_before : (d : Deed) → StepsDo empty before d → H d
+  pub done : (d : Deed) → StepsDo begin moves d → H d
   pub are : All (λ (m : Moving). IsSo m.step) moves
 
 -- each row that the steps began to store is good
-abbrev pub IsReached : (List ℕ → Type 0) → List Draw → World → Type 0
+abbrev pub IsReached : (Deed → Type 0) → List Draw → World → Type 0
 IsReached H draws w = IsReachedBy H (StoresGood draws) w
 
 -- the record that a request began
@@ -216,11 +215,11 @@ pub record HasWished (draws : List Draw) (q : ℕ) (name : Name) (version : Vers
   pub moment : ℕ
   pub drawn : Contains draws (record { request = q; name = name; version = version; wish = w; block = block; moment = moment })
 
-module _ (H : List ℕ → Type 0) where
+module _ (H : Deed → Type 0) where
   -- this version of an object, which request q for `own` read, was drawn, and is not below what was acknowledged before the request began
   pub record HasFound (draws : List Draw) (history : List Record) (q : ℕ) (own name : Name) (version : Version) : Type 0 where
     pub found : FoundIn draws name version
-    pub not_below : NoTrieClash H → (before after : List Record) (n : ℕ) (kind : Kind) (w : Version) → history ≡ before ++ began q n kind own ∷ after → WasAcknowledged before name w → ¬ Below version w
+    pub not_below : IsClear H → (before after : List Record) (n : ℕ) (kind : Kind) (w : Version) → history ≡ before ++ began q n kind own ∷ after → WasAcknowledged before name w → ¬ Below version w
 
 -- the object of this key in the bucket that a list is for
 abbrev pub listed : Name → List ℕ → Name
@@ -232,7 +231,7 @@ pub record HasRow (rows : List ObjectRow) (key : List ℕ) : Type 0 where
   pub is_there : Contains rows row
   pub key_is : row.key ≡ key
 
-module _ (H : List ℕ → Type 0) where
+module _ (H : Deed → Type 0) where
   -- a row shows an object, whose version was found, and whose bytes were written
   abbrev pub IsShown : List Draw → List Record → ℕ → Name → ObjectRow → Type 0
   IsShown draws history q own r = (is_shown r ≡ true) × ((v : Version) → IsSaid v (said_by r) → HasFound H draws history q own (listed own r.key) v) × SaysWritten draws (said_by r)
@@ -240,7 +239,7 @@ module _ (H : List ℕ → Type 0) where
   -- the rows that a list has of keys up to here, or of all: each shows an object, and of each object that was acknowledged before the list began it has the row, or a marker explains that it has none
   pub record HasShown (draws : List Draw) (history : List Record) (saw : List Saw) (q : ℕ) (own : Name) (rows : List ObjectRow) (reach : Option (List ℕ)) : Type 0 where
     pub shown : (r : ObjectRow) → Contains rows r → IsShown draws history q own r
-    pub covers : NoTrieClash H → (before after : List Record) (n : ℕ) (kind : Kind) (key : List ℕ) (w : Version) → history ≡ before ++ began q n kind own ∷ after → IsTrue (starts_with nat_eq key own.key) →
+    pub covers : IsClear H → (before after : List Record) (n : ℕ) (kind : Kind) (key : List ℕ) (w : Version) → history ≡ before ++ began q n kind own ∷ after → IsTrue (starts_with nat_eq key own.key) →
         IsTrue (is_within reach key) → WasAcknowledged before (listed own key) w → HasRow rows key ⊎ IsMarked saw q own.bucket key w
 
   -- a list that waits so scans past the keys of which it has all
@@ -281,10 +280,10 @@ pub record DrewHere (s : State) (name : Name) (version : Version) : Type 0 where
   pub in_time : place < draw.moment
   pub moment : draw.moment ≤ length s.history
 
-module _ (H : List ℕ → Type 0) where
+module _ (H : Deed → Type 0) where
   -- what request q owes if it finishes now with this answer
   pub record IsFreshEnd (s : State) (q : ℕ) (answer : Answer) : Type 0 where
-    pub covers : NoTrieClash H → (before after : List Record) (n : ℕ) (kind : Kind) (name : Name) (key : List ℕ) (w : Version) → IsTrue (is_read kind) → s.history ≡ before ++ began q n kind name ∷ after →
+    pub covers : IsClear H → (before after : List Record) (n : ℕ) (kind : Kind) (name : Name) (key : List ℕ) (w : Version) → IsTrue (is_read kind) → s.history ≡ before ++ began q n kind name ∷ after →
         IsTrue (names kind name.key key) → WasAcknowledged before (record { bucket = name.bucket; key = key }) w → Covers s.saw q name.bucket name.key answer key w
     pub written : NoClash s.buckets → (n : ℕ) (kind : Kind) (name : Name) (key : List ℕ) (v : Version) → IsTrue (is_read kind) → Contains s.history (began q n kind name) →
         IsTrue (names kind name.key key) → Shows name.key answer key v → DrewHere s (record { bucket = name.bucket; key = key }) v
@@ -301,7 +300,7 @@ LooksAt a aim.Get name = name ≡ a.name
 LooksAt a aim.Head name = name ≡ a.name
 LooksAt a (aim.Copy new headers) name = ⊤
 
-module _ (H : List ℕ → Type 0) where
+module _ (H : Deed → Type 0) where
   -- a get has found this version of its object; a copy owes nothing for what it reads
   abbrev pub HasSeen : List Draw → List Record → ℕ → Asked → Aim → Version → Type 0
   HasSeen draws history q a aim.Get version = HasFound H draws history q a.name a.name version
@@ -337,4 +336,4 @@ module _ (H : List ℕ → Type 0) where
     pub answered : HasAnswered s.draws s.history
     pub seen : SawDrawn s.draws s.saw
     pub proper : AreProper s.world.kept
-    pub fresh : NoTrieClash H → IsFresh s
+    pub fresh : IsClear H → IsFresh s

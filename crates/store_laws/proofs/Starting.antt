@@ -9,11 +9,12 @@ use Rattle.store_laws.proofs.Alike.{alike_same}
 use Rattle.store_laws.proofs.Reached.{reached_forgetting}
 use Rattle.store_laws.proofs.Sound.{IsSound}
 use Rattle.store_laws.proofs.Freshness.{fresh_later}
+use Rattle.store_laws.proofs.Deeds.{Deed}
 
-module _ {H : List ℕ → Type 0} where
+module _ {H : Deed → Type 0} where
   pub start_sound : IsSound H start
   start_sound = record {
-    reached = record { before = []; begin = empty; begun = inl (refl, refl); moves = []; lawful = tt; alike = alike_same empty; before_are = All-nil _; are = All-nil _; hashed_before = λ x h. absurd h; hashed = λ x h. absurd h };
+    reached = record { before = []; begin = empty; begun = inl (refl, refl); moves = []; lawful = tt; alike = alike_same empty; before_are = All-nil _; are = All-nil _; done_before = λ d h. absurd h; done = λ d h. absurd h };
     lengths = refl;
     told = record {
       began_asked = λ q n kind name c. absurd (none_in _ c);

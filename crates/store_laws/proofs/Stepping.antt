@@ -31,15 +31,16 @@ use Rattle.store_laws.proofs.Freshness.{fresh_later}
 use Rattle.store_laws.proofs.Grown.{kept_later}
 use Rattle.store_laws.proofs.Reached.{reached_step, reached_installing}
 use Rattle.store_laws.proofs.Ends.{IsEnd, rests_or_waits, present_continues, ends_are}
-use Rattle.store_laws.proofs.Hashing.{HashesIn}
+use Rattle.store_laws.proofs.Hashing.{DoesIn}
+use Rattle.store_laws.proofs.Deeds.{Deed}
 
 -- what is added fits the requests, and none opens
-pub record IsFine (H : List ℕ → Type 0) (s : State) (e : Effect AnyRow) : Type 0 where
+pub record IsFine (H : Deed → Type 0) (s : State) (e : Effect AnyRow) : Type 0 where
   pub opens : e.opens ≡ []
   pub presents : (n : ℕ) → ArePresent H s.asked s.draws s.history s.saw n (changed e.nodes s.world.nodes n).calls
   pub keeps : AreProper e.keeps
 
-module _ {H : List ℕ → Type 0} where
+module _ {H : Deed → Type 0} where
   -- effects on the world, whatever they are of
   pub effects_sound : (s : State) (e : Effect AnyRow) → IsSound H s → IsReached H s.draws (applied s.world e) → IsFine H s e → IsSound H (record s { world = applied s.world e })
   effects_sound s e sound reached fine =
@@ -59,7 +60,7 @@ module _ {H : List ℕ → Type 0} where
         fresh = λ clear. fresh_later s (record s { world = applied s.world e }) refl (λ n c. c) (λ d c. c) (λ x c. c) (sound.fresh clear);
       }
 
-  pub step_sound : (s : State) (m : Moving) → IsSound H s → IsLawfulRun any_join words s.world (m ∷ []) → HashesIn H s.world m → All (IsGood s.draws) (stored_by m.step) → IsFine H s (effect s m) → IsSound H (doing s m)
+  pub step_sound : (s : State) (m : Moving) → IsSound H s → IsLawfulRun any_join words s.world (m ∷ []) → DoesIn H s.world m → All (IsGood s.draws) (stored_by m.step) → IsFine H s (effect s m) → IsSound H (doing s m)
   step_sound s m sound lawful hashes stores fine = effects_sound s (effect s m) sound (reached_step (StoresGood s.draws) s.world m sound.reached lawful hashes stores (All-nil (IsGood s.draws))) fine
 
   -- a first layout is installed where none was applied: calls stay
@@ -89,11 +90,11 @@ module _ {H : List ℕ → Type 0} where
     keeps = keeps;
   }
 
-pub fine_cond : {H : List ℕ → Type 0} (s : State) (b : Bool) (d e : Effect AnyRow) → IsFine H s d → IsFine H s e → IsFine H s (cond b d e)
+pub fine_cond : {H : Deed → Type 0} (s : State) (b : Bool) (d e : Effect AnyRow) → IsFine H s d → IsFine H s e → IsFine H s (cond b d e)
 fine_cond s true d e h k = h
 fine_cond s false d e h k = k
 
-module _ {H : List ℕ → Type 0} where
+module _ {H : Deed → Type 0} where
   module _ (s : State) (e : Effect AnyRow) (sound : IsSound H s) (calm : IsCalm s.world e) where
     calm_both : AllByRecursion (λ (x : Ended AnyRow). IsEnd H s.asked s.draws s.history s.saw (e.keeps ++ s.world.kept) (e.reads ++ s.world.reads) x.request x.how ×
         WaitsAt s.asked calm.node x.request × ((c : Call AnyRow) → Has (changed e.nodes s.world.nodes calm.node).calls c → c.request ≡ x.request → c.present ≡ resting)) e.ends × AreProper e.keeps

@@ -35,10 +35,10 @@ use Rattle.store_laws.proofs.Every.{EveryWorld}
 use Rattle.store_laws.proofs.Rows.{IsOf, IsValue, IsFound, FoundIn, SaysWritten, found, value_written}
 use Rattle.store_laws.proofs.Covering.{IsSaid, CoversIn, CoversRow, covers}
 use Rattle.store_laws.proofs.Good.{IsGood}
-use Rattle.cluster_machine.specs.Hashes.{NoClash as NoTrieClash}
 use Rattle.store_laws.proofs.Sound.{began, IsWishOf, WasAcknowledged, HasKept, AsksRow, AsksFor, DrewHere, IsFreshEnd, HasFound, IsSound}
 use Rattle.store_laws.proofs.Reached.{reached_kept, reached_good}
 use Rattle.store_laws.proofs.Ends.{HasRead, IsEnd}
+use Rattle.store_laws.proofs.Deeds.{Deed, IsClear}
 
 -- two names with equal parts
 pub one_name : (a b : Name) → a.bucket ≡ b.bucket → a.key ≡ b.key → a ≡ b
@@ -46,7 +46,7 @@ one_name a b bucket key = λ i. record { bucket = bucket i; key = key i }
 
 -- ---- what a request owes that shows a version
 
-module _ {H : List ℕ → Type 0} where
+module _ {H : Deed → Type 0} where
   module _ (s : State) (q : ℕ) (a : Asked) (at : numbered s.asked q ≡ Some a) (sound : IsSound H s) where
     -- the request that a record says began is this one
     pub is_own : (n : ℕ) (kind : Kind) (began_name : Name) → Contains s.history (began q n kind began_name) → (a.kind ≡ kind) × (a.name ≡ began_name)
@@ -115,7 +115,7 @@ says_row (Some (rows.Object r)) said e some = (r, refl, e)
 says_row (Some (rows.Version r)) said e some = absurd (some (sym e))
 says_row (Some (rows.Ref r)) said e some = absurd (some (sym e))
 
-module _ {H : List ℕ → Type 0} where
+module _ {H : Deed → Type 0} where
   module _ (every : EveryWorld H) (s : State) (q : ℕ) (sound : IsSound H s) (value : Option AnyRow) (h : HasRead s.asked s.history s.world.reads q value) where
     given : (row : AnyRow) → value ≡ Some row → HasGiven words (IsGood s.draws) (read h.question (Some row))
     given row e = reached_good every s.draws s.world sound.reached (read h.question (Some row)) (subst (λ v. Contains s.world.reads (read h.question v)) e h.is_there)
@@ -154,7 +154,7 @@ module _ {H : List ℕ → Type 0} where
       by_kind w (rows.Ref r) e c = absurd c
 
       -- it is an object's row, which covers what was acknowledged before
-      covered : NoTrieClash H → (before after : List Record) (n : ℕ) (kind : Kind) (w : Version) → s.history ≡ before ++ began q n kind a.name ∷ after → WasAcknowledged before a.name w →
+      covered : IsClear H → (before after : List Record) (n : ℕ) (kind : Kind) (w : Version) → s.history ≡ before ++ began q n kind a.name ∷ after → WasAcknowledged before a.name w →
           (r : ObjectRow) × (value ≡ Some (rows.Object r)) × CoversIn r w
       covered clear before after n kind w cut ack =
           let name : Name = a.name in
@@ -189,7 +189,7 @@ module _ {H : List ℕ → Type 0} where
 
       module _ (own : (key : List ℕ) → IsTrue (names a.kind a.name.key key) → a.name.key ≡ key) where
         -- what the row covers that was acknowledged of a key that the request names
-        covered_own : NoTrieClash H → (before after : List Record) (n : ℕ) (kind : Kind) (m : Name) (key : List ℕ) (w : Version) → s.history ≡ before ++ began q n kind m ∷ after → IsTrue (names kind m.key key) →
+        covered_own : IsClear H → (before after : List Record) (n : ℕ) (kind : Kind) (m : Name) (key : List ℕ) (w : Version) → s.history ≡ before ++ began q n kind m ∷ after → IsTrue (names kind m.key key) →
             WasAcknowledged before (record { bucket = m.bucket; key = key }) w → (r : ObjectRow) × (value ≡ Some (rows.Object r)) × CoversIn r w
         covered_own clear before after n kind m key w cut named ack =
             let is = is_own s q a at sound n kind m (at_cut s.history before after (began q n kind m) cut) in
@@ -234,7 +234,7 @@ module _ {H : List ℕ → Type 0} where
 
 -- ---- what a phase gave
 
-module _ {H : List ℕ → Type 0} where
+module _ {H : Deed → Type 0} where
   -- each version of an object's row that a phase gave was drawn
   pub gave_drawn : (every : EveryWorld H) (s : State) (q : ℕ) → IsSound H s → (end : PhaseEnd AnyRow) → IsEnd H s.asked s.draws s.history s.saw s.world.kept s.world.reads q end → (r : ObjectRow) → Gave end (rows.Object r) → IsOf s.draws (rows.Object r)
   gave_drawn every s q sound (Answered value) h r gave = (given_good every s q sound value h (rows.Object r) gave).0

@@ -1,12 +1,14 @@
--- What a run of acts hashes for the walks of its nodes.
-use Rattle.std.specs.Prelude.{◌⊎◌, ℕ, List, [], ◌∷◌}
+-- What a run of acts hashes for the walks of its nodes, and acts that never collect.
+use Rattle.std.specs.Prelude.{◌⊎◌, ℕ, List, [], ◌∷◌, ⊤}
+use Rattle.std.specs.List.{AllByRecursion}
 use Rattle.crdt_rows.specs.AnyRow.{any_join}
 use Rattle.object_schema.specs.Schema.{words}
 use Rattle.cluster_machine.specs.Hashes.{RunHashes}
 use Rattle.cluster_machine.specs.Layouts.{layouts}
 use Rattle.cluster_machine.specs.Trio.{trio, stage_trio}
 use Rattle.store_model.specs.Run.{World, Moving, State}
-use Rattle.store_model.specs.Acts.{Act, acted}
+use Rattle.machine_collects.specs.Without.{IsOther}
+use Rattle.store_model.specs.Acts.{Act, moves, acted}
 
 -- the strings that these steps hash
 abbrev pub StepsHash : World → List Moving → List ℕ → Type 0
@@ -16,3 +18,12 @@ StepsHash w moves x = RunHashes words any_join layouts trio stage_trio w moves x
 abbrev pub ActsHash : State → List Act → List ℕ → Type 0
 ActsHash s [] x = ⊥
 ActsHash s (a ∷ as') x = StepsHash s.world (acted s a).moves x ⊎ ActsHash (acted s a).state as' x
+
+-- the act is not the step `collect`
+abbrev pub IsOtherAct : Act → Type 0
+IsOtherAct (moves m) = IsOther m.step
+IsOtherAct _ = ⊤
+
+-- none of these acts is
+abbrev pub NeverCollect : List Act → Type 0
+NeverCollect acts = AllByRecursion IsOtherAct acts

@@ -15,6 +15,7 @@ use Rattle.lab_main.proofs.Writing.{wrote_nothing}
 use Rattle.lab_main.proofs.Edges.{answers_begin, last_answers, last_begins, ends_fault, whole_writes}
 use Rattle.store_model.specs.Run.{start}
 use Rattle.store_model.specs.Moments.{IsMoment, between, AtEachMoment}
+use Rattle.store_laws.proofs.Deeds.{turns_never_collect}
 use Rattle.store_anchors.specs.Promises.{WalksAreClear, KeepsPromises, EveryRunKeepsPromises}
 use Rattle.store_model.specs.declared.event.Numbered.{Numbered}
 use Rattle.store_model.specs.Events.{Turn, acts_of, events_of, run}
@@ -102,7 +103,7 @@ module _ (always : EveryRunKeepsPromises) (count seed : ℕ) (old new : Option (
   summary_is_fresh : (turns : List Turn) (text : List ℕ) → ArePlayed turns → IsText (Summary count seed) turns text → WalksAreClear (acts_of turns) → NoClash (run start turns).buckets → text ≡ fresh_summary count seed turns
   summary_is_fresh turns text played h clear apart =
       h.text_is ∙ h.ends.text_is
-      ∙ ap (λ line. summary_lines count seed (run start turns) ++ closing (length turns) (run start turns) line) (line_is_fresh (run start turns).history h.ends.line ((kept turns played (acts_of turns) (at_last turns)).recorded clear apart) h.ends.is_line)
+      ∙ ap (λ line. summary_lines count seed (run start turns) ++ closing (length turns) (run start turns) line) (line_is_fresh (run start turns).history h.ends.line ((kept turns played (acts_of turns) (at_last turns)).recorded clear (turns_never_collect turns) apart) h.ends.is_line)
 
   done_summarizes : Answers (IsAnswer count seed) Done old new → IsSummarized count seed old new
   done_summarizes h =

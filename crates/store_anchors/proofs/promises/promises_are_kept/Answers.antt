@@ -8,12 +8,12 @@ returns c acts lawful fit moment is =
       written = c.reads_give_what_was_written.ensures moment run.0 run.1;
       equal = c.replicas_are_equal.ensures moment run.0 run.1;
       kept = λ clear. c.phases_read_what_was_kept.ensures.kept moment run.0 run.1 clear;
-      fresh = λ clear. c.fresh_reads.ensures moment run.0 run.1 clear;
-      recorded = λ clear. c.records_are_fresh.ensures moment run.0 run.1 clear;
+      fresh = λ clear never. c.fresh_reads.ensures moment run.0 run.1 clear never;
+      recorded = λ clear never. c.records_are_fresh.ensures moment run.0 run.1 clear never;
       whole = λ clear. c.gets_read_whole_versions.ensures.bytes moment run.0 run.1 clear;
-      copied = λ clear. c.copies_take_what_was_written.ensures.takes moment run.0 run.1 clear;
+      copied = λ clear never. c.copies_take_what_was_written.ensures.takes moment run.0 run.1 clear never;
       superseded = λ clear. c.gets_read_whole_versions.ensures.superseded moment run.0 run.1 clear;
-      copies_end = λ clear. c.copies_take_what_was_written.ensures.superseded moment run.0 run.1 clear;
+      copies_end = λ clear never. c.copies_take_what_was_written.ensures.superseded moment run.0 run.1 clear never;
       goes_on = λ clear. c.gets_read_whole_versions.ensures.goes_on moment run.0 run.1 clear;
       anchored = λ clear. c.acknowledged_blocks_are_anchored.ensures moment run.0 run.1 clear;
     }

@@ -1,8 +1,8 @@
 -- Which nodes have confirmed a round, what each gave, and where answers lead.
 use Rattle.std.specs.Prelude.{ℕ, ◌==◌, Bool, true, false, not, List, Option, Some, None, option_map}
 use Rattle.std.specs.List.{find}
-use Rattle.table_gc.specs.declared.collection.GcEnd.{GcEnd}
-use Rattle.table_gc.specs.declared.collection.GcEnd.TheVariants.{Wait, Closed, Complete}
+use Rattle.gc_model.specs.declared.collection.GcEnd.{GcEnd}
+use Rattle.gc_model.specs.declared.collection.GcEnd.TheVariants.{Wait, Closed, Complete}
 
 -- the newest layout version that the node gave first
 abbrev pub given : ℕ → List (ℕ × ℕ) → Option ℕ

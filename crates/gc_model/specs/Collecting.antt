@@ -3,11 +3,11 @@ use Rattle.std.specs.Prelude.{ℕ, ◌+◌, ◌==◌, ◌&&◌, Bool, false, not
 use Rattle.std.specs.List.{filter, find}
 use Rattle.std.specs.Cmp.Lexicographic.{pointwise}
 use Rattle.numbered_list.specs.Numbers.{AreNumbered}
-use Rattle.table_gc.specs.declared.collection.Collection.{Collection}
-use Rattle.table_gc.specs.declared.collection.GcEnd.{GcEnd}
-use Rattle.table_gc.specs.declared.collection.GcEnd.TheVariants.{Wait, Closed, Complete}
+use Rattle.gc_model.specs.declared.collection.Collection.{Collection}
+use Rattle.gc_model.specs.declared.collection.GcEnd.{GcEnd}
+use Rattle.gc_model.specs.declared.collection.GcEnd.TheVariants.{Wait, Closed, Complete}
 use Rattle.quorum_model.specs.Quorum.{is_among}
-use Rattle.table_gc.specs.Rounds.{given, is_changed, is_closed}
+use Rattle.gc_model.specs.Rounds.{given, is_changed, is_closed}
 
 -- the open collections of a node
 pub record Open : Type 0 where

@@ -1,0 +1,3 @@
+mod Came
+mod Stepping
+mod Given
