@@ -57,6 +57,7 @@ module _ (silent : SheetsAreQuiet) (events : List Numbered) where
   line_adds asked history (line.Got m) ok = line_heard events asked history (line.Got m) ok.0
   line_adds asked history (line.Sent m k a b) ok = line_heard events asked history (line.Sent m k a b) ok.0
   line_adds asked history (line.Synced n v) ok = line_heard events asked history (line.Synced n v) ok.0
+  line_adds asked history (line.Dropped n ts id) ok = line_heard events asked history (line.Dropped n ts id) ok.0
   line_adds asked history (line.Done q w version size md5) ok = line_heard events asked history (line.Done q w version size md5) ok.0
   line_adds asked history (line.Listed q keys) ok = line_heard events asked history (line.Listed q keys) ok.0
   line_adds asked history (line.Ended q w) ok = line_heard events asked history (line.Ended q w) ok.0

@@ -57,7 +57,7 @@ abbrev AreOrderly : List (Line Applied) → Type 0
 AreOrderly ls = AllByRecursion IsOrderlyLine ls
 
 step_orderly : (w : World) (st : Step AnyRow) (choice : Decision) → GivenTells IsOrderlyLine choice → AreOrderly (effects any_join words layouts trio stage_trio w st choice).tells
-step_orderly w st choice h = step_tells IsOrderlyLine (λ m. tt) (λ m a b k. tt) (λ n v. tt) (λ q word. tt) w st choice h
+step_orderly w st choice h = step_tells IsOrderlyLine (λ m. tt) (λ m a b k. tt) (λ n v. tt) (λ n ts id. tt) (λ q word. tt) w st choice h
 
 -- ---- requests print no layout
 

@@ -64,6 +64,7 @@ line_heard events asked history (line.Layout shown) ok = ap (λ h. Some (quiet a
 line_heard events asked history (line.Got m) ok = ap (λ h. Some (quiet asked h)) (sym (append-nil history))
 line_heard events asked history (line.Sent m k a b) ok = ap (λ h. Some (quiet asked h)) (sym (append-nil history))
 line_heard events asked history (line.Synced n v) ok = ap (λ h. Some (quiet asked h)) (sym (append-nil history))
+line_heard events asked history (line.Dropped n ts id) ok = ap (λ h. Some (quiet asked h)) (sym (append-nil history))
 line_heard events asked history (line.Done q w (Some v) size md5) ok = rw (ok.1.0, ok.1.1) refl
 line_heard events asked history (line.Done q w None size md5) ok = rw (ok.1.0, ok.1.1) refl
 line_heard events asked history (line.Listed q []) ok = rw (ok) refl

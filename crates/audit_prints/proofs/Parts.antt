@@ -65,6 +65,7 @@ print_by_size s k line (Apply node) (Accepted (One number)) (said.Nodes nodes �
 print_by_size s k line (Apply node) (Accepted (One number)) (said.Got m ∷ saids) = refl
 print_by_size s k line (Apply node) (Accepted (One number)) (said.Sent m kind from to ∷ saids) = refl
 print_by_size s k line (Apply node) (Accepted (One number)) (said.Synced n v ∷ saids) = refl
+print_by_size s k line (Apply node) (Accepted (One number)) (said.Dropped n v ∷ saids) = refl
 print_by_size s k line (Apply node) (Accepted (One number)) (said.Done q word answer ∷ saids) = refl
 print_by_size s k line (Apply node) (Accepted (One number)) (said.Listed q count ∷ saids) = refl
 print_by_size s k line (Apply node) (Accepted (One number)) (said.Key key version size ∷ saids) = refl

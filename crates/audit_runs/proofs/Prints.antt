@@ -70,6 +70,7 @@ print_is_behind s k line (Some (Apply node)) (Accepted (One number)) (said.Nodes
 print_is_behind s k line (Some (Apply node)) (Accepted (One number)) (said.Got m ∷ saids) = tt
 print_is_behind s k line (Some (Apply node)) (Accepted (One number)) (said.Sent m kind from to ∷ saids) = tt
 print_is_behind s k line (Some (Apply node)) (Accepted (One number)) (said.Synced n v ∷ saids) = tt
+print_is_behind s k line (Some (Apply node)) (Accepted (One number)) (said.Dropped n v ∷ saids) = tt
 print_is_behind s k line (Some (Apply node)) (Accepted (One number)) (said.Done q word answer ∷ saids) = tt
 print_is_behind s k line (Some (Apply node)) (Accepted (One number)) (said.Listed q count ∷ saids) = tt
 print_is_behind s k line (Some (Apply node)) (Accepted (One number)) (said.Key key version size ∷ saids) = tt
@@ -123,6 +124,7 @@ module _ (P : Staged → Type 0) (A : Event → Type 0) (keeps : (s : Staged) (e
     prints_keep s k (said.Got m ∷ saids) h = prints_keep s (suc k) saids h
     prints_keep s k (said.Sent m kind from to ∷ saids) h = prints_keep s (suc k) saids h
     prints_keep s k (said.Synced n v ∷ saids) h = prints_keep s (suc k) saids h
+    prints_keep s k (said.Dropped n v ∷ saids) h = prints_keep s (suc k) saids h
     prints_keep s k (said.Done q word answer ∷ saids) h = prints_keep s (suc k) saids h
     prints_keep s k (said.Listed q count ∷ saids) h = prints_keep s (suc k) saids h
     prints_keep s k (said.Key key version size ∷ saids) h = prints_keep s (suc k) saids h
