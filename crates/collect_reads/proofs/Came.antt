@@ -241,15 +241,18 @@ module _ {R L : Type 0} (messages : List (Sent R L)) where
             asked_traced q as' a None e has came all found = record { calls = goes_with (asking q (as' ++ a ∷ [])) (all_append (λ (a : ℕ × Option R). CameAnswer c.request a.1) as' (a ∷ []) has (came, tt)); reads = tt }
             asked_traced q as' a (Some two) e has came all found = record {
               calls = goes_with resting tt;
-              reads = (record {
-                request = c.request;
-                some = holds.some;
-                ended = record { how = GaveRow (merged join two); is = refl };
-                two = two;
-                came = two_have (CameAnswer c.request) q.set as' a two has came e;
-                found = two_have (IsFound s AnyRow q.table q.key) q.set as' a two all found e;
-                is = refl;
-              }, tt);
+              reads = (
+                record {
+                  request = c.request;
+                  some = holds.some;
+                  ended = record { how = GaveRow (merged join two); is = refl };
+                  two = two;
+                  came = two_have (CameAnswer c.request) q.set as' a two has came e;
+                  found = two_have (IsFound s AnyRow q.table q.key) q.set as' a two all found e;
+                  is = refl;
+                },
+                tt,
+              );
             }
 
             -- what came for a phase that asks for this
@@ -273,15 +276,18 @@ module _ {R L : Type 0} (messages : List (Sent R L)) where
             looked_traced q as' a None e has came all found = record { calls = goes_with (scanning q (as' ++ a ∷ [])) (all_append (λ (a : ℕ × RangeAnswer R). CameRows c.request a.1) as' (a ∷ []) has (came, tt)); reads = tt }
             looked_traced q as' a (Some two) e has came all found = record {
               calls = goes_with resting tt;
-              reads = (record {
-                request = c.request;
-                some = holds.some;
-                ended = record { how = GaveWindow (window join s two).rows (window join s two).end; is = refl };
-                two = two;
-                came = two_have (CameRows c.request) q.set as' a two has came e;
-                found = two_have (IsAnswer join s AnyRow AnyBlock q.position q.prefix q.after) q.set as' a two all found e;
-                is = refl;
-              }, tt);
+              reads = (
+                record {
+                  request = c.request;
+                  some = holds.some;
+                  ended = record { how = GaveWindow (window join s two).rows (window join s two).end; is = refl };
+                  two = two;
+                  came = two_have (CameRows c.request) q.set as' a two has came e;
+                  found = two_have (IsAnswer join s AnyRow AnyBlock q.position q.prefix q.after) q.set as' a two all found e;
+                  is = refl;
+                },
+                tt,
+              );
             }
 
             rows_traced : (from : ℕ) (rs : List R) (more : Bool) (p : Present R) → c.present ≡ p → CameRows c.request (record { rows = rs; more = more }) → AnswersTo join s AnyRow AnyBlock (g n c.request c.phases) (record { rows = rs; more = more }) → IsTraced (rows_came join s x c from rs more p)

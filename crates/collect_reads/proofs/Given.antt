@@ -58,7 +58,7 @@ module _ {R : Type 0} {join : R → R → R} {s : Words R} {v : Versions R} (law
   -- ---- messages that were sent within the hour
 
   module _ {L : Type 0} (messages : List (Sent R L)) (moments : List ℕ) (time : ℕ) (since : AllByRecursion (λ (x : Sent R L). IsSinceAny moments x.moment (answered x.packet)) messages)
-    (clean : (x : Sent R L) (r : R) → Has messages x → time ≤ x.moment + hour → Carries s x.packet r → IsTrue (s.is_proper r) → Clean r) where
+      (clean : (x : Sent R L) (r : R) → Has messages x → time ≤ x.moment + hour → Carries s x.packet r → IsTrue (s.is_proper r) → Clean r) where
     -- a message that answers this request was sent within the hour
     is_live : (x : Sent R L) (request : ℕ) → Has messages x → 1 ≤ request → answered x.packet ≡ Some request → ((began : ℕ) → numbered moments request ≡ Some began → time ≤ began + hour) → time ≤ x.moment + hour
     is_live x request there some e soon =

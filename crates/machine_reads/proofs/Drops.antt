@@ -205,8 +205,8 @@ module _ {R L : Type 0} (join : R → R → R) (s : Words R) (k : Layouts L) (pa
         proper = (proper, m.proper);
         calls = calls_stay join s k partitions H p new g g up (length w.requests) (length w.requests) n x.calls (omega arith) (same_at join s k partitions H g (length w.requests) n) m.calls;
         round = round_in_stays join s k partitions H p new g g up n x.round (λ number b e. e) m.round;
-              mending = mending_stays join s k partitions H p new g g up n x.mending m.mending;
-              lasting = mending_stays join s k partitions H p new g g up n x.lasting m.lasting;
+        mending = mending_stays join s k partitions H p new g g up n x.mending m.mending;
+        lasting = mending_stays join s k partitions H p new g g up n x.lasting m.lasting;
         later_rounds = m.later_rounds;
       })
       t.kept tt (means new g, tt) t.not_asked t.not_stored (taking_collected join s k partitions H n (r ∷ []) p) (refl, tt)

@@ -434,11 +434,7 @@ fn a_restart_loses_requests_and_a_repair_pushes_rows(rt: HostRuntime) -> Result<
 }
 
 // The node collects when its clock says `now`; how many collections began and are open, and how many messages it sent.
-fn collect(
-    alloc: Global,
-    node: &mut Node<S3Schema>,
-    now: u64,
-) -> Result<(u64, u64, usize), Fail> {
+fn collect(alloc: Global, node: &mut Node<S3Schema>, now: u64) -> Result<(u64, u64, usize), Fail> {
     let mut out = Vec::new(alloc);
     match act_at(node, Action::Collect, now, &mut out)? {
         LocalEnd::Collected { begun, left } => Ok((begun, left, out.len())),
@@ -511,7 +507,10 @@ fn a_tombstone_is_collected_in_two_rounds(rt: HostRuntime) -> Result<(), Fail> {
     assert_eq!(rt; confirmed(alloc, &mut node, 1, 86_400_007)?, (None, 0));
     assert_eq!(rt; collect(alloc, &mut node, 97_200_006)?, (0, 1, 0));
     assert_eq!(rt; collect(alloc, &mut node, 97_200_007)?, (0, 1, 15));
-    assert_eq!(rt; confirmed(alloc, &mut node, 2, 97_200_008)?, (Some((5, 5)), 15));
+    assert_eq!(rt;
+        confirmed(alloc, &mut node, 2, 97_200_008)?,
+        (Some((5, 5)), 15)
+    );
     assert_eq!(rt; node.table().len(), 0);
     assert_eq!(rt; collect(alloc, &mut node, 97_200_009)?, (0, 0, 0));
     Ok(())

@@ -199,10 +199,7 @@ fn marked(alloc: Global, table: &Table<S3Schema>, limit: u64) -> Result<usize, M
 }
 
 // How many these are up to 0, 1 and 3.
-fn marked_up_to(
-    alloc: Global,
-    table: &Table<S3Schema>,
-) -> Result<(usize, usize, usize), Memory> {
+fn marked_up_to(alloc: Global, table: &Table<S3Schema>) -> Result<(usize, usize, usize), Memory> {
     Ok((
         marked(alloc, table, 0)?,
         marked(alloc, table, 1)?,
