@@ -40,13 +40,13 @@ use Rattle.machine_collects.specs.Without.{IsOther, AreOther, IsBare}
 use Rattle.crdt_core.proofs.Each.{all_append}
 
 module _ {R L : Type 0} where
-  abbrev AreBare : List (Post R L) → Type 0
+  abbrev pub AreBare : List (Post R L) → Type 0
   AreBare posts = AllByRecursion (λ (p : Post R L). IsBare p.packet) posts
 
   -- nothing that is sent is about collections, and nothing is collected
-  record Bare (d : Did R L) : Type 0 where
-    posts : AreBare d.posts
-    collects : d.collects ≡ []
+  pub record Bare (d : Did R L) : Type 0 where
+    pub posts : AreBare d.posts
+    pub collects : d.collects ≡ []
 
   bare_quiet : (x : Node R L) → Bare (quiet x)
   bare_quiet x = record { posts = tt; collects = refl }
@@ -58,7 +58,7 @@ module _ {R L : Type 0} where
   bare_answers : (x : Node R L) (to : ℕ) (m : Message R) → IsBare {L = L} (says m) → Bare (answers x to m)
   bare_answers x to m h = record { posts = (h, tt); collects = refl }
 
-  abbrev AreBareSent : List (Sent R L) → Type 0
+  abbrev pub AreBareSent : List (Sent R L) → Type 0
   AreBareSent sent = AllByRecursion (λ (x : Sent R L). IsBare x.packet) sent
 
   bare_at_call : (x : Node R L) (phase : ℕ) (f : Call R → Did R L) (o : Option (Call R)) → ((c : Call R) → Bare (f c)) → Bare (at_call x phase f o)
@@ -266,9 +266,9 @@ module _ {R L : Type 0} where
 
 module _ {R L A C : Type 0} (join : R → R → R) (s : Words R) (k : Layouts L) (trio : L) (trio_roles : List Role → List Role) where
   -- nothing is sent about collections, and nothing is collected
-  record BareStep (e : Effects R L A C) : Type 0 where
-    sends : AreBareSent e.sends
-    collects : e.collects ≡ []
+  pub record BareStep (e : Effects R L A C) : Type 0 where
+    pub sends : AreBareSent e.sends
+    pub collects : e.collects ≡ []
 
   bare_did : (w : World R L) (n : ℕ) (d : Did R L) → Bare d → BareStep (did w n d)
   bare_did w n d h = record { sends = bare_sent w n d.posts h.posts; collects = h.collects }
@@ -310,7 +310,7 @@ module _ {R L A C : Type 0} (join : R → R → R) (s : Words R) (k : Layouts L)
       (bare_either (leb after w.applied) _ _ (bare_refusal w (VersionTaken after))
       (bare_either (leb most_versions w.applied) _ _ (bare_refusal w VersionLimit) (bare_chosen w n after choice)))
 
-  bare_acting : (w : World R L) (n : ℕ) (b : Bool) (a : Acted R L) → Bare a.did → BareStep (acting join s k trio trio_roles w n b a)
+  pub bare_acting : (w : World R L) (n : ℕ) (b : Bool) (a : Acted R L) → Bare a.did → BareStep (acting join s k trio trio_roles w n b a)
   bare_acting w n b a h = bare_either b _ _ (bare_refusal w NotMember) (record { sends = bare_sent w n a.did.posts h.posts; collects = h.collects })
 
   bare_begun : (w : World R L) (n : ℕ) (p : Phase R) (o : Option (Call R)) → BareStep (begun join s k trio trio_roles w n p o)
@@ -321,7 +321,7 @@ module _ {R L A C : Type 0} (join : R → R → R) (s : Words R) (k : Layouts L)
   bare_beginning w q p None = bare_nothing w
   bare_beginning w q p (Some r) = bare_either r.is_open _ _ (bare_begun w r.coordinator p (call_at (w.nodes r.coordinator).calls q)) (bare_nothing w)
 
-  bare_effects : (w : World R L) (step : Step R) (choice : Choice L A C) → AreBareSent w.messages → IsOther step → BareStep (effects join s k trio trio_roles w step choice)
+  pub bare_effects : (w : World R L) (step : Step R) (choice : Choice L A C) → AreBareSent w.messages → IsOther step → BareStep (effects join s k trio trio_roles w step choice)
   bare_effects w Trio choice a i = bare_either (leb 1 w.applied) _ _ (bare_refusal w (VersionTaken 1)) (record { sends = tt; collects = refl })
   bare_effects w (Stage n role) choice a i = record { sends = tt; collects = refl }
   bare_effects w (Spread r) choice a i = record { sends = tt; collects = refl }

@@ -8,7 +8,7 @@
 //! `R` is what a row is, `L` what a layout is, `A` what is printed of one, `C` what shows that there is none.
 #![tactic(auto)]
 
-ghost use Rattle.std.specs.Prelude.{◌≡◌, ◌≤◌, ◌+◌, ℕ, false, Some, List, [], ◌++◌, IsTrue};
+ghost use Rattle.std.specs.Prelude.{◌≡◌, ◌≤◌, ◌+◌, ℕ, false, None, Some, List, [], ◌++◌, IsTrue};
 ghost use Rattle.std.specs.List.{AllByRecursion};
 ghost use Rattle.crdt_core.specs.Members.{Has};
 ghost use Rattle.layout_roles.specs.declared.role.Role.{Role};
@@ -52,4 +52,10 @@ pub fn only_tombstones<R, L, A, C>()
 pub fn nothing_without_collect<R, L, A, C>()
     ensures { (join : R → R → R) (s : Words R) (k : Layouts L) (trio : L) (trio_roles : List Role → List Role) (moves : List (Move R L A C)) → AreOther moves →
         ((run join s k trio trio_roles empty moves).collected ≡ []) × AllByRecursion (λ (x : Sent R L). IsBare x.packet) (run join s k trio trio_roles empty moves).messages }
+{}
+
+/// Where no row has nothing but a delete marker nothing is collected, whichever nodes are told to collect.
+pub fn nothing_without_markers<R, L, A, C>()
+    ensures { (join : R → R → R) (s : Words R) (k : Layouts L) (trio : L) (trio_roles : List Role → List Role) (moves : List (Move R L A C)) → ((r : R) → s.marker r ≡ None) →
+        (run join s k trio trio_roles empty moves).collected ≡ [] }
 {}

@@ -2,7 +2,7 @@
 //! contract.
 #![tactic(auto)]
 
-ghost use Rattle.std.specs.Prelude.{◌≡◌, ℕ, List, [], ◌++◌};
+ghost use Rattle.std.specs.Prelude.{◌≡◌, ℕ, None, List, [], ◌++◌};
 ghost use Rattle.std.specs.List.{Contains};
 ghost use Rattle.layout_roles.specs.declared.layout.Layout.{Layout};
 ghost use Rattle.table_model.specs.Rows.{AllProper};
@@ -20,7 +20,7 @@ ghost use Rattle.cluster_machine.specs.Worlds.{Doing, IsLawfulRun, IsLawfulStart
 
 use cluster_machine::applied::Applied;
 use layout_roles::{Cut, Layout};
-use machine_collects::nothing_without_collect;
+use machine_collects::{nothing_without_collect, nothing_without_markers};
 use machine_origins::{
     collected_rows_are_stored_objects, every_range_phase_gives_a_window,
     every_read_gives_stored_rows,
@@ -116,4 +116,11 @@ pub fn nothing_is_collected_without_collect<S: Schema>()
 {
     empty_world_is_sound::<S::Row>();
     nothing_without_collect::<S::Row, Layout, Applied, Cut>();
+}
+
+/// Where no row has nothing but a delete marker, nothing is collected, whichever nodes are told to collect.
+pub fn nothing_is_collected_without_markers<S: Schema>()
+    ensures { ((r : S.Row) → S.words.marker r ≡ None) → (moves : List (Doing S.Row)) → (run S.Row.join S.words empty moves).collected ≡ [] }
+{
+    nothing_without_markers::<S::Row, Layout, Applied, Cut>();
 }
