@@ -88,7 +88,7 @@ module _ {R L A C : Type 0} (join : R → R → R) (s : Words R) (unmarked : (r 
   record IsUnopened (w : World R L) : Type 0 where
     messages : AreBareSent w.messages
     collected : w.collected ≡ []
-    open : (n : ℕ) → HasNone (w.nodes n)
+    nodes : (n : ℕ) → HasNone (w.nodes n)
 
   module _ (w : World R L) (i : IsUnopened w) where
     -- no node has one after the step
@@ -101,64 +101,64 @@ module _ {R L A C : Type 0} (join : R → R → R) (s : Words R) (unmarked : (r 
 
     -- one node changes
     one : (n : ℕ) (x : Node R L) → HasNone x → (m : ℕ) → HasNone (unwrap_or (only n x m) (w.nodes m))
-    one n x h m = elim (m == n) as (λ b. HasNone (unwrap_or (cond b (Some x) None) (w.nodes m))) [ true ↦ h | false ↦ i.open m ]
+    one n x h m = elim (m == n) as (λ b. HasNone (unwrap_or (cond b (Some x) None) (w.nodes m))) [ true ↦ h | false ↦ i.nodes m ]
 
     at_message_none : (f : Sent R L → Effects R L A C) (o : Option (Sent R L)) (mark : Option Mark) → ((x : Sent R L) → o ≡ Some x → None_open (f x)) → None_open (at_message w f o mark)
-    at_message_none f None mark h = i.open
-    at_message_none f (Some x) None h = i.open
-    at_message_none f (Some x) (Some mark) h = by_test mark.is_lost (refusal w Lost) (f x) i.open (h x refl)
+    at_message_none f None mark h = i.nodes
+    at_message_none f (Some x) None h = i.nodes
+    at_message_none f (Some x) (Some mark) h = by_test mark.is_lost (refusal w Lost) (f x) i.nodes (h x refl)
 
     expires_none : (q : ℕ) (o : Option Request) → None_open (expires w q o)
-    expires_none q None = i.open
-    expires_none q (Some r) = by_test r.is_open _ (refusal w AlreadyEnded) (one r.coordinator (closed q (w.nodes r.coordinator)) (i.open r.coordinator)) i.open
+    expires_none q None = i.nodes
+    expires_none q (Some r) = by_test r.is_open _ (refusal w AlreadyEnded) (one r.coordinator (closed q (w.nodes r.coordinator)) (i.nodes r.coordinator)) i.nodes
 
     closing_none : (q : ℕ) (o : Option Request) → None_open (closing w q o)
-    closing_none q None = i.open
-    closing_none q (Some r) = by_test r.is_open _ (nothing w) (one r.coordinator (closed q (w.nodes r.coordinator)) (i.open r.coordinator)) i.open
+    closing_none q None = i.nodes
+    closing_none q (Some r) = by_test r.is_open _ (nothing w) (one r.coordinator (closed q (w.nodes r.coordinator)) (i.nodes r.coordinator)) i.nodes
 
     chosen_none : (n v : ℕ) (choice : Choice L A C) → None_open (chosen join s k trio trio_roles w n v choice)
-    chosen_none n v (none_given r) = i.open
-    chosen_none n v (given l shown) = one n (appends k (w.nodes n) l) (i.open n)
+    chosen_none n v (none_given r) = i.nodes
+    chosen_none n v (given l shown) = one n (appends k (w.nodes n) l) (i.nodes n)
 
     applies_none : (n : ℕ) (choice : Choice L A C) → None_open (applies_at join s k trio trio_roles w n choice)
     applies_none n choice =
         let after = suc (newest k.reading (w.nodes n).view) in
-        by_test (leb 1 w.applied && not (is_member k (w.nodes n).view n)) _ _ i.open
-        (by_test (leb after w.applied) _ _ i.open (by_test (leb most_versions w.applied) _ _ i.open (chosen_none n after choice)))
+        by_test (leb 1 w.applied && not (is_member k (w.nodes n).view n)) _ _ i.nodes
+        (by_test (leb after w.applied) _ _ i.nodes (by_test (leb most_versions w.applied) _ _ i.nodes (chosen_none n after choice)))
 
     trio_none : None_open (trio_applies join s k trio trio_roles w)
-    trio_none n = elim (is_among n (k.reading.members trio)) as (λ b. HasNone (unwrap_or (cond b (Some (appends k (w.nodes n) trio)) None) (w.nodes n))) [ true ↦ i.open n | false ↦ i.open n ]
+    trio_none n = elim (is_among n (k.reading.members trio)) as (λ b. HasNone (unwrap_or (cond b (Some (appends k (w.nodes n) trio)) None) (w.nodes n))) [ true ↦ i.nodes n | false ↦ i.nodes n ]
 
     acting_none : (n : ℕ) (b : Bool) (action : Action) → None_open (acting join s k trio trio_roles w n b (acts join s k n (clock w n) (w.nodes n) action))
     acting_none n b action =
         let a = acts join s k n (clock w n) (w.nodes n) action in
-        by_test b (refusal w NotMember) _ i.open (one n a.did.node (acts_none join s unmarked k n (clock w n) (w.nodes n) action (i.open n)))
+        by_test b (refusal w NotMember) _ i.nodes (one n a.did.node (acts_none join s unmarked k n (clock w n) (w.nodes n) action (i.nodes n)))
 
     begun_none : (n : ℕ) (p : Phase R) (o : Option (Call R)) → None_open (begun join s k trio trio_roles w n p o)
-    begun_none n p None = i.open
-    begun_none n p (Some c) = one n (begins s k w.kept (w.nodes n) c p).node (ap (λ (o : Collections). o.collections) (begins_same join s k w.kept (w.nodes n) c p) ∙ i.open n)
+    begun_none n p None = i.nodes
+    begun_none n p (Some c) = one n (begins s k w.kept (w.nodes n) c p).node (ap (λ (o : Collections). o.collections) (begins_same join s k w.kept (w.nodes n) c p) ∙ i.nodes n)
 
     beginning_none : (q : ℕ) (p : Phase R) (o : Option Request) → None_open (beginning join s k trio trio_roles w q p o)
-    beginning_none q p None = i.open
-    beginning_none q p (Some r) = by_test r.is_open _ (nothing w) (begun_none r.coordinator p (call_at (w.nodes r.coordinator).calls q)) i.open
+    beginning_none q p None = i.nodes
+    beginning_none q p (Some r) = by_test r.is_open _ (nothing w) (begun_none r.coordinator p (call_at (w.nodes r.coordinator).calls q)) i.nodes
 
     delivered_none : (m : ℕ) (x : Sent R L) → numbered w.messages m ≡ Some x → None_open (received m (did w x.to (receives join s k x.to (clock w x.to) (w.nodes x.to) x.from x.packet)))
     delivered_none m x e =
         let bare : IsBare x.packet = all_numbered (λ (x : Sent R L). IsBare x.packet) w.messages m x i.messages e in
-        one x.to (receives join s k x.to (clock w x.to) (w.nodes x.to) x.from x.packet).node (ap (λ (o : Collections). o.collections) (receives_same join s k x.to (w.nodes x.to) (clock w x.to) x.from x.packet bare) ∙ i.open x.to)
+        one x.to (receives join s k x.to (clock w x.to) (w.nodes x.to) x.from x.packet).node (ap (λ (o : Collections). o.collections) (receives_same join s k x.to (w.nodes x.to) (clock w x.to) x.from x.packet bare) ∙ i.nodes x.to)
 
     effects_none : (st : Step R) (choice : Choice L A C) → None_open (effects join s k trio trio_roles w st choice)
-    effects_none Trio choice = by_test (leb 1 w.applied) (refusal w (VersionTaken 1)) _ i.open trio_none
-    effects_none (Stage n role) choice = i.open
-    effects_none (Spread r) choice = i.open
+    effects_none Trio choice = by_test (leb 1 w.applied) (refusal w (VersionTaken 1)) _ i.nodes trio_none
+    effects_none (Stage n role) choice = i.nodes
+    effects_none (Spread r) choice = i.nodes
     effects_none (Apply n) choice = applies_none n choice
-    effects_none (Tick ms) choice = i.open
-    effects_none (Skew n ms) choice = i.open
+    effects_none (Tick ms) choice = i.nodes
+    effects_none (Skew n ms) choice = i.nodes
     effects_none (Deliver m) choice = at_message_none _ (numbered w.messages m) (numbered w.marks m) (delivered_none m)
-    effects_none (Lose m) choice = at_message_none _ (numbered w.messages m) (numbered w.marks m) (λ x e. i.open)
+    effects_none (Lose m) choice = at_message_none _ (numbered w.messages m) (numbered w.marks m) (λ x e. i.nodes)
     effects_none (Expire q) choice = expires_none q (numbered w.requests q)
     effects_none (Restart n) choice = one n (restarts (w.nodes n)) refl
-    effects_none (Gossip from to) choice = one from (w.nodes from) (i.open from)
+    effects_none (Gossip from to) choice = one from (w.nodes from) (i.nodes from)
     effects_none (Ack n) choice = acting_none n (has_none k (w.nodes n).view) RaiseAck
     effects_none (Syncs n) choice = acting_none n (has_none k (w.nodes n).view) GoOn
     effects_none (SyncAck n) choice = acting_none n (has_none k (w.nodes n).view) RaiseSyncAck
@@ -166,13 +166,13 @@ module _ {R L A C : Type 0} (join : R → R → R) (s : Words R) (unmarked : (r 
     effects_none (Work n) choice = acting_none n (has_none k (w.nodes n).view) WorkOff
     effects_none (Repair n) choice = acting_none n (not (is_member k (w.nodes n).view n)) Mend
     effects_none (Collect n) choice = acting_none n (has_none k (w.nodes n).view) Gather
-    effects_none (Open n) choice = by_test (is_member k (w.nodes n).view n) _ (refusal w NotMember) (one n _ (i.open n)) i.open
+    effects_none (Open n) choice = by_test (is_member k (w.nodes n).view n) _ (refusal w NotMember) (one n _ (i.nodes n)) i.nodes
     effects_none (Begin q p) choice = beginning_none q p (numbered w.requests q)
     effects_none (Close q) choice = closing_none q (numbered w.requests q)
 
     -- nothing is sent about collections, and nothing is collected
     bare_step : (st : Step R) (choice : Choice L A C) → BareStep (effects join s k trio trio_roles w st choice)
-    bare_step (Collect n) choice = bare_acting join s k trio trio_roles w n (has_none k (w.nodes n).view) (acts join s k n (clock w n) (w.nodes n) Gather) (collects_bare join s unmarked k n (clock w n) (w.nodes n) (i.open n))
+    bare_step (Collect n) choice = bare_acting join s k trio trio_roles w n (has_none k (w.nodes n).view) (acts join s k n (clock w n) (w.nodes n) Gather) (collects_bare join s unmarked k n (clock w n) (w.nodes n) (i.nodes n))
     bare_step Trio choice = bare_effects join s k trio trio_roles w Trio choice i.messages tt
     bare_step (Stage n role) choice = bare_effects join s k trio trio_roles w (Stage n role) choice i.messages tt
     bare_step (Spread r) choice = bare_effects join s k trio trio_roles w (Spread r) choice i.messages tt
@@ -202,9 +202,9 @@ module _ {R L A C : Type 0} (join : R → R → R) (s : Words R) (unmarked : (r 
       unopened_run (next join s k trio trio_roles w m) moves (record {
         messages = all_append _ w.messages e.sends i.messages b.sends;
         collected = ap (λ rs. rs ++ w.collected) b.collects ∙ i.collected;
-        open = effects_none w i m.step m.choice;
+        nodes = effects_none w i m.step m.choice;
       })
 
   -- nothing is collected
   pub none_collected : (moves : List (Move R L A C)) → (run join s k trio trio_roles empty moves).collected ≡ []
-  none_collected moves = (unopened_run empty moves (record { messages = tt; collected = refl; open = λ n. refl })).collected
+  none_collected moves = (unopened_run empty moves (record { messages = tt; collected = refl; nodes = λ n. refl })).collected
