@@ -1,5 +1,5 @@
 -- The nodes and layout versions that a node's messages, walks and entries name are numbers of the code.
-use Rattle.std.proofs.Common.{◌≡◌, ◌≤◌, ◌<◌, ◌+◌, ◌^◌, ℕ, zero, suc, min, Bool, true, false, not, ◌==◌, leb, nat_lt, cond, Option, Some, None, List, [], ◌∷◌, ◌++◌, length, map, refl, sym, subst, ◌∙◌, arith}
+use Rattle.std.proofs.Common.{◌≡◌, ◌≤◌, ◌<◌, ◌+◌, ◌^◌, ℕ, zero, suc, min, Bool, true, false, not, ◌==◌, ◌&&◌, leb, nat_lt, cond, Option, Some, None, List, [], ◌∷◌, ◌++◌, length, map, refl, sym, subst, ◌∙◌, arith}
 use Rattle.std.specs.Prelude.{⊤, slice_get, sum_by}
 use Rattle.std.specs.List.{AllByRecursion, filter, find, flat_map, fold}
 use Rattle.std.specs.Option.{unwrap_or}
@@ -28,23 +28,28 @@ use Rattle.quorum_model.specs.Answers.{first_two_at}
 use Rattle.quorum_model.specs.declared.range.RangeAnswer.{RangeAnswer}
 use Rattle.table_model.specs.Rows.{row_at}
 use Rattle.table_schema.specs.Words.{partition_of, partition_at}
+use Rattle.gc_model.specs.declared.collection.Collection.{Collection}
+use Rattle.gc_model.specs.declared.collection.GcEnd.{GcEnd}
+use Rattle.gc_model.specs.declared.collection.GcEnd.TheVariants.{Wait, Closed, Complete}
+use Rattle.gc_model.specs.Collecting.{Open, numbered as numbered_open, closed, answer_end, answered}
 use Rattle.walk_model.specs.Walking.{is_open}
 use Rattle.walk_model.specs.Noting.{is_noted}
 use Rattle.wire_messages.specs.Size.{stored_length}
 use Rattle.wire_messages.specs.declared.message.Message.{Message}
-use Rattle.wire_messages.specs.declared.message.Message.TheVariants.{Get, Row, Range, Rows, Store, Stored, Behind, NotHere, BlockGet, Block, NoBlock, Walk as AsksValue, Same as HasSame, Differ}
+use Rattle.wire_messages.specs.declared.message.Message.TheVariants.{Get, Row, Range, Rows, Store, Stored, Behind, NotHere, BlockGet, Block, NoBlock, Walk as AsksValue, Same as HasSame, Differ, Tomb, Tombed, Forget}
 use Rattle.wire_messages.specs.declared.message.Tag.{Tag}
 use Rattle.wire_messages.specs.declared.message.Tag.TheVariants.{Call as ForCall, Round as ForRound, Item as ForItem}
 use Rattle.wire_messages.specs.declared.phase.Phase.{Phase}
 use Rattle.wire_messages.specs.declared.phase.Phase.TheVariants.{Read, Range as Scans, Store as Keeps, Block as Fetches}
 use Rattle.cluster_machine.specs.declared.step.Action.{Action}
-use Rattle.cluster_machine.specs.declared.step.Action.TheVariants.{Ack as RaiseAck, Sync as GoOn, SyncAck as RaiseSyncAck, Clean as CleanUp, Work as WorkOff, Repair as Mend}
+use Rattle.cluster_machine.specs.declared.step.Action.TheVariants.{Ack as RaiseAck, Sync as GoOn, SyncAck as RaiseSyncAck, Clean as CleanUp, Work as WorkOff, Repair as Mend, Collect as Gather}
 use Rattle.cluster_machine.specs.declared.step.LocalEnd.TheVariants.{At, Idle as IsIdle}
 use Rattle.cluster_machine.specs.Layouts.{layouts, set_of, set_in, set_at, stored_sets, is_given, is_stored}
 use Rattle.cluster_machine.specs.Node.{Question, Scan, Present, resting, asking, scanning, storing, fetching, Call, Item, Part, Walk, Round, Mending, Node, Packet, says, shows, Post, Did, quiet}
-use Rattle.cluster_machine.specs.Rows.{block_at, has_block, block_of, blocks_after, still, accepts_read, accepts_all, drops, sees}
+use Rattle.cluster_machine.specs.Rows.{block_at, has_block, block_of, blocks_after, still, accepts, accepts_read, accepts_all, drops, sees}
 use Rattle.cluster_machine.specs.Phases.{with_node, in_order, nodes_of, call_at, to_each, calls_now, asked, looked, stored, stores, begins, value_after, row_came, window_at, rows_came, stored_came, block_came, at_call}
 use Rattle.cluster_machine.specs.Rounds.{confirmed_for, is_complete, open_nodes, walk_at, is_walk, without_walk, with_walk, has_ended, walks_after, found_same, rows_at, walk_after, asked_after, walk_with, walks_of, asks_at, first_asks, starts, pushes_rows, sends_after, parts_of, synced, goes_on, may_sync, begin_round, other_nodes, filled_parts, open_parts, new_walks, walked_anew, again, repairs, round_walks, mending_walks, at_walk, mending_came, with_mending, with_lasting, late_came, answer_came}
+use Rattle.cluster_machine.specs.Collects.{all_nodes, others, has_bytes, has_digest, forgets_row, drops_row, merges, finishes, answered_to}
 use Rattle.cluster_machine.specs.Receives.{answers, where_stored, gives_row, gives_block, takes, compares, walks_on, round_came, confirms, hears, receives}
 use Rattle.cluster_machine.specs.Node as machine
 use Rattle.cluster_machine.specs.World.{packet_size}
@@ -219,6 +224,15 @@ pub record NodeNamed (k : ℕ) (x : Machine) : Type 0 where
   pub mending : WalksNamed x.mending
   pub lasting : WalksNamed x.lasting
 
+-- a delete marker has numbers of the code
+abbrev pub MarkNamed : Option (ℕ × ℕ) → Type 0
+MarkNamed None = ⊤
+MarkNamed (Some version) = IsNumber version.0 × IsNumber version.1
+
+-- so have those that rows of a node have alone
+abbrev pub MarksNamed : Machine → Type 0
+MarksNamed x = (table : ℕ) (key : List ℕ) (r : AnyRow) → row_at any_join words x.accepted table key ≡ Some r → MarkNamed (words.marker r)
+
 abbrev pub PacketNamed : Packet AnyRow Layout → Type 0
 PacketNamed (says m) = ⊤
 PacketNamed (shows v) = EntriesLow v.trackers
@@ -230,6 +244,12 @@ PostNamed p = IsNumber p.to × PacketNamed p.packet
 pub record DidNamed (k : ℕ) (d : Did AnyRow Layout) : Type 0 where
   pub node : NodeNamed k d.node
   pub posts : AllByRecursion PostNamed d.posts
+  pub dropped : MarkNamed d.dropped
+
+-- an action that isn't to collect: no event is
+abbrev pub IsElse : Action → Type 0
+IsElse Gather = ⊥
+IsElse _ = ⊤
 
 -- ---- messages
 
@@ -352,6 +372,21 @@ accepted_named k now (b ∷ bs) x h =
     let m : ℕ = k + stored_length b in
     node_wider (m + total stored_length bs) (k + total stored_length (b ∷ bs)) _ (omega arith) (accepted_named m now bs one (read_named k now x b.0 b.1 (words.read b.0) refl h))
 
+-- a tombstone that comes brings no block
+merged_named : (k id now : ℕ) (x : Machine) (row : List ℕ) (o : Option AnyRow) → words.read row ≡ o → length x.blocks + length row ≤ k → NodeNamed k x → NodeNamed k (merges any_join words layouts id now x o)
+merged_named k id now x row None e room h = h
+merged_named k id now x row (Some r) e room h =
+    let own : NodeNamed (length x.blocks) x = record { blocks = omega arith; entries = h.entries; round = h.round; mending = h.mending; lasting = h.lasting } in
+    let after : NodeNamed k (accepts any_join words now x r None) = node_wider (length x.blocks + stored_length (row, None)) k (accepts any_join words now x r None) (omega arith) (read_named (length x.blocks) now x row None (Some r) e own) in
+    elim (is_given layouts x.view id (partition_of words r)) as (λ b. NodeNamed k (cond b (accepts any_join words now x r None) x)) [ true ↦ after | false ↦ h ]
+
+-- nodes 1 to 16
+all_named : AreNumbers all_nodes
+all_named = (
+  omega arith,
+  (omega arith, (omega arith, (omega arith, (omega arith, (omega arith, (omega arith, (omega arith, (omega arith, (omega arith, (omega arith, (omega arith, (omega arith, (omega arith, (omega arith, (omega arith, tt))))))))))))))),
+)
+
 sees_named : (k id now : ℕ) (x : Machine) (v : View Layout) → NodeNamed k x → EntriesLow v.trackers → NodeNamed k (sees any_join words layouts id now x v)
 sees_named k id now x v h low =
     let new : Machine = record x { view = v; round = still (oldest reading v) x.round } in
@@ -371,7 +406,7 @@ goes_named k id x round r h = elim (is_complete round) as (λ b. NodeNamed k (co
   | false ↦ record { blocks = h.blocks; entries = h.entries; round = r; mending = h.mending; lasting = h.lasting }
 ]
 
-module _ (k id : ℕ) (x : Machine) (h : NodeNamed k x) (views : ViewNamed x.view) where
+module _ (k id : ℕ) (x : Machine) (h : NodeNamed k x) (views : ViewNamed x.view) (marks : MarksNamed x) where
   -- there is room for the blocks beside what a packet has
   abbrev pub HasPlaceFor : Packet AnyRow Layout → Type 0
   HasPlaceFor p = (b : ℕ) → packet_size words p ≡ Some b → length x.blocks + b ≤ k
@@ -380,7 +415,7 @@ module _ (k id : ℕ) (x : Machine) (h : NodeNamed k x) (views : ViewNamed x.vie
   Named d = DidNamed k d
 
   quiets : (y : Machine) → NodeNamed k y → Named (quiet y)
-  quiets y i = record { node = i; posts = tt }
+  quiets y i = record { node = i; posts = tt; dropped = tt }
 
   rests : Named (quiet x)
   rests = quiets x h
@@ -390,7 +425,7 @@ module _ (k id : ℕ) (x : Machine) (h : NodeNamed k x) (views : ViewNamed x.vie
   either false d e i j = j
 
   answers_named : (y : Machine) (to : ℕ) (m : Message AnyRow) → NodeNamed k y → IsNumber to → Named (answers y to m)
-  answers_named y to m i n = record { node = i; posts = ((n, tt), tt) }
+  answers_named y to m i n = record { node = i; posts = ((n, tt), tt); dropped = tt }
 
   -- a node of which calls alone change
   called : (c : Call AnyRow) → NodeNamed k (calls_now x c)
@@ -405,15 +440,15 @@ module _ (k id : ℕ) (x : Machine) (h : NodeNamed k x) (views : ViewNamed x.vie
 
   asked_named : (c : Call AnyRow) (q : Question AnyRow) (as' : List (ℕ × Option AnyRow)) (a : ℕ × Option AnyRow) (o : Option (Option AnyRow)) → Named (asked x c q as' a o)
   asked_named c q as' a None = quiets _ (called (record c { present = asking q (as' ++ a ∷ []) }))
-  asked_named c q as' a (Some value) = record { node = called (record c { present = resting }); posts = tt }
+  asked_named c q as' a (Some value) = record { node = called (record c { present = resting }); posts = tt; dropped = tt }
 
   looked_named : (c : Call AnyRow) (q : Scan AnyRow) (as' : List (ℕ × RangeAnswer AnyRow)) (a : ℕ × RangeAnswer AnyRow) (o : Option (Window AnyRow)) → Named (looked x c q as' a o)
   looked_named c q as' a None = quiets _ (called (record c { present = scanning q (as' ++ a ∷ []) }))
-  looked_named c q as' a (Some w) = record { node = called (record c { present = resting }); posts = tt }
+  looked_named c q as' a (Some w) = record { node = called (record c { present = resting }); posts = tt; dropped = tt }
 
   stored_named : (c : Call AnyRow) (rs : List AnyRow) (slots : List StoreSlot) (b : Bool) → Named (stored x c rs slots b)
   stored_named c rs slots false = quiets _ (called (record c { present = storing rs slots }))
-  stored_named c rs slots true = record { node = called (record c { present = resting }); posts = tt }
+  stored_named c rs slots true = record { node = called (record c { present = resting }); posts = tt; dropped = tt }
 
   row_named : (c : Call AnyRow) (from : ℕ) (row : Option AnyRow) (p : Present AnyRow) → Named (row_came any_join x c from row p)
   row_named c from row (asking q as') = asked_named c q as' (from, row) (value_after any_join q as' (from, row))
@@ -437,7 +472,7 @@ module _ (k id : ℕ) (x : Machine) (h : NodeNamed k x) (views : ViewNamed x.vie
   confirmed_named c slot from (fetching hash) = rests
 
   block_named : (c : Call AnyRow) (bytes : List ℕ) (p : Present AnyRow) → Named (block_came x c bytes p)
-  block_named c bytes (fetching hash) = record { node = called (record c { present = resting }); posts = tt }
+  block_named c bytes (fetching hash) = record { node = called (record c { present = resting }); posts = tt; dropped = tt }
   block_named c bytes resting = rests
   block_named c bytes (asking q as') = rests
   block_named c bytes (scanning q as') = rests
@@ -460,7 +495,7 @@ module _ (k id : ℕ) (x : Machine) (h : NodeNamed k x) (views : ViewNamed x.vie
   compares_named : (from : ℕ) (tag : Tag) (named p table : ℕ) (prefix : List ℕ) (hash : Hash32) → IsNumber from → Named (compares any_join words layouts id x from tag named p table prefix hash)
   compares_named from tag named p table prefix hash n =
       either (nat_lt (newest reading x.view) named) _ _ (answers_named x from (Behind tag (newest reading x.view)) h n)
-      (either (not (is_given layouts x.view id p)) _ _ (answers_named x from (NotHere tag) h n) (record { node = h; posts = ((n, tt), tt) }))
+      (either (not (is_given layouts x.view id p)) _ _ (answers_named x from (NotHere tag) h n) (record { node = h; posts = ((n, tt), tt); dropped = tt }))
 
   round_came_named : (from number p : ℕ) (o : Option Round) → RoundNamed o → Named (round_came any_join words layouts id x from number p o)
   round_came_named from number p None r = rests
@@ -485,6 +520,7 @@ module _ (k id : ℕ) (x : Machine) (h : NodeNamed k x) (views : ViewNamed x.vie
       record {
         node = i (record mending { walks = walks_after later mending.walks }) (walks_after_named later mending.walks there m);
         posts = after_named x mending.number later table (asked_after any_join words x w.state.partition table prefix answer) there;
+        dropped = tt;
       })) d
 
   late_named : (from number p table : ℕ) (prefix : List ℕ) (answer : Option (List (ℕ × Hash32))) → Named (late_came any_join words layouts x from number p table prefix answer)
@@ -505,6 +541,7 @@ module _ (k id : ℕ) (x : Machine) (h : NodeNamed k x) (views : ViewNamed x.vie
           | false ↦ record { blocks = h.blocks; entries = h.entries; round = record { target = r.target; parts = r.parts; walks = walks }; mending = h.mending; lasting = h.lasting }
         ];
         posts = after_named x round.number later table (asked_after any_join words x w.state.partition table prefix answer) there;
+        dropped = tt;
       }
 
   answer_named : (from number p table : ℕ) (prefix : List ℕ) (answer : Option (List (ℕ × Hash32))) (o : Option Round) → RoundNamed o → Named (answer_came any_join words layouts id x from number p table prefix answer o)
@@ -525,10 +562,34 @@ module _ (k id : ℕ) (x : Machine) (h : NodeNamed k x) (views : ViewNamed x.vie
   confirms_named from (ForRound number p) = round_came_named from number p x.round h.round
   confirms_named from (ForItem number) = quiets _ (same_node k x _ h refl refl refl refl refl)
 
+  -- ---- collections
+
+  other_gc : (o : Open) → NodeNamed k (record x { gc = o })
+  other_gc o = same_node k x (record x { gc = o }) h refl refl refl refl refl
+
+  forgotten_named : (table : ℕ) (key : List ℕ) (test : AnyRow → Bool) (o : Option AnyRow) → ((r : AnyRow) → o ≡ Some r → MarkNamed (words.marker r)) → Named (forgets_row any_join words x table key test o)
+  forgotten_named table key test None m = rests
+  forgotten_named table key test (Some r) m = either (test r) _ (quiet x) (record { node = same_node k x _ h refl refl refl refl refl; posts = tt; dropped = m r refl }) rests
+
+  drops_named : (o : Open) (c : Collection) (row : Option AnyRow) → ((r : AnyRow) → row ≡ Some r → MarkNamed (words.marker r)) → Named (drops_row any_join words id (record x { gc = o }) c row)
+  drops_named o c None m = quiets _ (other_gc o)
+  drops_named o c (Some r) m = record { node = same_node k x _ h refl refl refl refl refl; posts = each_named (others id) _ (all_filter IsNumber (λ n. not (n == id)) all_nodes all_named); dropped = m r refl }
+
+  finished_named : (o : Option Collection) → Named (finishes any_join words layouts id x o)
+  finished_named None = rests
+  finished_named (Some c) =
+      let row = row_at any_join words x.accepted 1 c.key in
+      either ((newest reading x.view == c.newest) && has_bytes any_join words c.row row) _ _ (drops_named (closed c.number x.gc) c row (marks 1 c.key)) (quiets _ (other_gc (closed c.number x.gc)))
+
+  tombed_named : (number round : ℕ) (o : Open) (e : GcEnd) → Named (answered_to any_join words layouts id x number round o e)
+  tombed_named number round o Wait = quiets _ (other_gc o)
+  tombed_named number round o Closed = quiets _ (other_gc o)
+  tombed_named number round o Complete = either (round == 2) _ _ (finished_named (numbered_open number x.gc)) (quiets _ (other_gc o))
+
   hears_named : (now from : ℕ) (m : Message AnyRow) → IsNumber from → HasPlaceFor (says m) → Named (hears any_join words layouts id now x from m)
-  hears_named now from (Get request phase at table key) n room = here from request phase at (gives_row any_join words layouts x from request phase (row_at any_join words x.accepted table key)) n (record { node = h; posts = ((n, tt), tt) })
+  hears_named now from (Get request phase at table key) n room = here from request phase at (gives_row any_join words layouts x from request phase (row_at any_join words x.accepted table key)) n (record { node = h; posts = ((n, tt), tt); dropped = tt })
   hears_named now from (Row request phase row) n room = in_call phase (λ c. row_came any_join x c from row c.present) (call_at x.calls request) (λ c. row_named c from row c.present)
-  hears_named now from (Range request phase at bucket prefix after) n room = here from request phase at _ n (record { node = h; posts = ((n, tt), tt) })
+  hears_named now from (Range request phase at bucket prefix after) n room = here from request phase at _ n (record { node = h; posts = ((n, tt), tt); dropped = tt })
   hears_named now from (Rows request phase rs more) n room = in_call phase (λ c. rows_came any_join words x c from rs more c.present) (call_at x.calls request) (λ c. window_named c from rs more c.present)
   hears_named now from (Store tag named p bs) n room = takes_named now from tag named p bs n room
   hears_named now from (Stored tag) n room = confirms_named from tag
@@ -540,6 +601,11 @@ module _ (k id : ℕ) (x : Machine) (h : NodeNamed k x) (views : ViewNamed x.vie
   hears_named now from (AsksValue tag named p table prefix hash) n room = compares_named from tag named p table prefix hash n
   hears_named now from (HasSame tag table prefix) n room = walks_on_named from tag table prefix None
   hears_named now from (Differ tag table prefix pairs) n room = walks_on_named from tag table prefix (Some pairs)
+  hears_named now from (Tomb number round row) n room =
+      let high : length x.blocks + (64 + length row) ≤ k = room (64 + length row) refl in
+      record { node = merged_named k id now x row (words.read row) refl (omega (arith, high)) h; posts = ((n, tt), tt); dropped = tt }
+  hears_named now from (Tombed number round named) n room = tombed_named number round (answered number round from named now x.gc) (answer_end number round from named x.gc)
+  hears_named now from (Forget table key hash) n room = forgotten_named table key (has_digest any_join words hash.0) (row_at any_join words x.accepted table key) (marks table key)
 
   pub receives_named : (now from : ℕ) (p : Packet AnyRow Layout) → IsNumber from → PacketNamed p → HasPlaceFor p → Named (receives any_join words layouts id now x from p)
   receives_named now from (says m) n i room = hears_named now from m n room
@@ -555,6 +621,7 @@ module _ (k id : ℕ) (x : Machine) (h : NodeNamed k x) (views : ViewNamed x.vie
       record {
         node = goes_named k id (record x { rounds = suc x.rounds; lasting = None }) _ (record { target = low; parts = parts; walks = walks }) (record { blocks = h.blocks; entries = h.entries; round = h.round; mending = h.mending; lasting = tt });
         posts = starts_named x (suc x.rounds) _ walks;
+        dropped = tt;
       }
 
   again_named : (round : Round) → IsRound round → Named (again any_join words layouts id x round)
@@ -564,13 +631,14 @@ module _ (k id : ℕ) (x : Machine) (h : NodeNamed k x) (views : ViewNamed x.vie
       record {
         node = goes_named k id x (walked_anew any_join words layouts x round) (record { target = r.target; parts = r.parts; walks = all_append WalkNamed (new_walks any_join words layouts x round) _ new (all_filter WalkNamed _ round.walks r.walks) }) h;
         posts = starts_named x round.number _ new;
+        dropped = tt;
       }
 
   repairs_named : Named (repairs any_join words layouts id x)
   repairs_named =
       let l : Option Layout = layout_at reading x.view (newest reading x.view) in
       let walks = walks_of_named x (other_nodes any_join words layouts id) (parts_of any_join words layouts id x l l) (others_named id) (parts_named id x l l (layout_named x.view (newest reading x.view) views)) in
-      record { node = record { blocks = h.blocks; entries = h.entries; round = h.round; mending = walks; lasting = h.lasting }; posts = starts_named x (suc x.rounds) _ walks }
+      record { node = record { blocks = h.blocks; entries = h.entries; round = h.round; mending = walks; lasting = h.lasting }; posts = starts_named x (suc x.rounds) _ walks; dropped = tt }
 
   -- what a node did, and what it answers
   abbrev ActedNamed : Acted AnyRow Layout → Type 0
@@ -596,21 +664,22 @@ module _ (k id : ℕ) (x : Machine) (h : NodeNamed k x) (views : ViewNamed x.vie
       let version = or_low (entry which id (raised which id i x.view.trackers)) (oldest reading x.view) (now which id) (first_low x.view.layouts views.layouts) in
       (quiets _ (record { blocks = h.blocks; entries = now; round = h.round; mending = h.mending; lasting = h.lasting }), (omega arith, tt))
 
-  pub acts_named : (now most : ℕ) → most < 2 ^ 64 → k < 2 ^ 64 → length x.items ≤ most → (action : Action) → ActedNamed (acts any_join words layouts id now x action)
-  acts_named now most top high items RaiseAck = raises_named Ack (least_start (newest reading x.view) x.calls) (starts_low (newest reading x.view) x.calls views.newest)
-  acts_named now most top high items GoOn = syncs_named x.round h.round
-  acts_named now most top high items RaiseSyncAck = raises_named SyncAck (read_version reading x.view) (read_low x.view views)
-  acts_named now most top high items CleanUp =
+  pub acts_named : (now most : ℕ) → most < 2 ^ 64 → k < 2 ^ 64 → length x.items ≤ most → (action : Action) → IsElse action → ActedNamed (acts any_join words layouts id now x action)
+  acts_named now most top high items RaiseAck other = raises_named Ack (least_start (newest reading x.view) x.calls) (starts_low (newest reading x.view) x.calls views.newest)
+  acts_named now most top high items GoOn other = syncs_named x.round h.round
+  acts_named now most top high items RaiseSyncAck other = raises_named SyncAck (read_version reading x.view) (read_low x.view views)
+  acts_named now most top high items CleanUp other =
       let low = first_low (cleaned reading x.view).layouts (all_filter LayoutNamed _ x.view.layouts views.layouts) in
       (quiets _ (sees_named k id now x (cleaned reading x.view) h h.entries), (omega arith, tt))
-  acts_named now most top high items WorkOff =
+  acts_named now most top high items WorkOff other =
       let few = filter_fewer (λ (b : machine.Block). is_due any_join words now x b.hash) x.blocks in
       let less = filter_fewer (stays any_join words now x) x.blocks in
       let blocks = h.blocks in (
-        record { node = record { blocks = omega (arith, blocks, less); entries = h.entries; round = h.round; mending = h.mending; lasting = h.lasting }; posts = items_named x x.view views x.items },
+        record { node = record { blocks = omega (arith, blocks, less); entries = h.entries; round = h.round; mending = h.mending; lasting = h.lasting }; posts = items_named x x.view views x.items; dropped = tt },
         (omega (arith, top, items), (omega (arith, high, blocks, few), tt)),
       )
-  acts_named now most top high items Mend = (repairs_named, tt)
+  acts_named now most top high items Mend other = (repairs_named, tt)
+  acts_named now most top high items Gather other = absurd other
 
   -- ---- phases
 
@@ -618,13 +687,16 @@ module _ (k id : ℕ) (x : Machine) (h : NodeNamed k x) (views : ViewNamed x.vie
   begins_named kept c (Read table position key) = record {
     node = same_node k x _ h refl refl refl refl refl;
     posts = each_named (set_at layouts x.view (read_version reading x.view) (partition_at position.0)) _ (set_in_named _ (partition_at position.0) (layout_named x.view (read_version reading x.view) views));
+    dropped = tt;
   }
   begins_named kept c (Scans position prefix after) = record {
     node = same_node k x _ h refl refl refl refl refl;
     posts = each_named (set_at layouts x.view (read_version reading x.view) (partition_at position.0)) _ (set_in_named _ (partition_at position.0) (layout_named x.view (read_version reading x.view) views));
+    dropped = tt;
   }
-  begins_named kept c (Keeps rows) = record { node = same_node k x _ h refl refl refl refl refl; posts = stores_named x x.view views c.request (suc c.phases) 0 rows }
+  begins_named kept c (Keeps rows) = record { node = same_node k x _ h refl refl refl refl refl; posts = stores_named x x.view views c.request (suc c.phases) 0 rows; dropped = tt }
   begins_named kept c (Fetches hash) = record {
     node = same_node k x _ h refl refl refl refl refl;
     posts = each_named (set_at layouts x.view (read_version reading x.view) (partition_at hash.0)) _ (set_in_named _ (partition_at hash.0) (layout_named x.view (read_version reading x.view) views));
+    dropped = tt;
   }

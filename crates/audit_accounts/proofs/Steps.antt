@@ -195,7 +195,7 @@ module _ (facts : Facts) (stays : StaysSound any_join words) where
         let steps = room.steps in
         let top = room.top in
         let one = moves (rows_bounded facts r.t r.drawn r.within) stays r.t r.run.k r.run.k 268435456 s.world mv (omega arith) (omega (arith, top)) (omega arith) (omega (arith, steps)) r.run.world r.run.marks meant place lawful.2 in
-        let small = small_of r.t r.run.k 268435456 r.drawn s.world (omega (arith, top)) r.run.world r.named in
+        let small = small_of facts r.t r.run.k 268435456 r.drawn s.world r.within (omega (arith, top)) r.run.world r.named in
         let effects = step_named r.run.k r.run.k (omega arith) (omega (arith, top)) s.world r.named small mv.step mv.choice names place lawful.2 in
         let after = next_named r.run.k r.run.k (omega arith) (omega (arith, top)) s.world r.named small (effect s mv) effects in
         record {

@@ -38,7 +38,7 @@ use Rattle.cluster_machine.specs.Phases.{call_at, begins, opened, closed}
 use Rattle.cluster_machine.specs.Acts.{Acted, acts, appends, restarts}
 use Rattle.cluster_machine.specs.World.{Sent, Mark, Request, numbered, clock, is_member_at}
 use Rattle.cluster_machine.specs.Choices.{Decision, IsComputed, IsRefused, IsNone}
-use Rattle.cluster_machine.specs.Step.{most_versions, given, none_given, nothing, refusal, sent_by, sent_from, sync_line, told, did, received, at_message, expires, closing, restarted, chosen, applies_at, trio_applies, acting, begun, beginning, opening, effects, applied, shut, shut_one, only, requests_of}
+use Rattle.cluster_machine.specs.Step.{most_versions, given, none_given, nothing, refusal, sent_by, sent_from, sync_line, dropped_line, told, did, received, at_message, expires, closing, restarted, chosen, applies_at, trio_applies, acting, begun, beginning, opening, effects, applied, shut, shut_one, only, requests_of}
 use Rattle.cluster_machine.specs.Trio.{trio, stage_trio}
 use Rattle.cluster_machine.specs.Worlds.{Done as Effect, newest_at, IsLawfulStep}
 use Rattle.machine_origins.proofs.Lists.{all_numbered}
@@ -48,7 +48,7 @@ use Rattle.machine_limits.proofs.Lists.{all_set}
 use Rattle.store_model.specs.Run.{World}
 use Rattle.audit_model.specs.Lines.{IsNumber, AreBelow, answer_numbers, told_numbers, IsInRange}
 use Rattle.audit_laws.specs.Told.{saids_of, told_of}
-use Rattle.audit_accounts.proofs.Nodes.{NodeNamed, node_wider, ViewNamed, PacketNamed, PostNamed, DidNamed, IsLow, receives_named, acts_named, begins_named}
+use Rattle.audit_accounts.proofs.Nodes.{NodeNamed, node_wider, ViewNamed, PacketNamed, PostNamed, MarkNamed, MarksNamed, DidNamed, IsLow, IsElse, receives_named, acts_named, begins_named}
 
 -- what a line says is in its ranges, but for the lines of a layout
 abbrev pub LineFits : Line Applied → Type 0
@@ -77,13 +77,14 @@ pub record WorldNamed (k : ℕ) (w : World) : Type 0 where
 -- what else is known of it
 pub record IsSmall (w : World) : Type 0 where
   pub views : (n : ℕ) → ViewNamed (w.nodes n).view
+  pub marks : (n : ℕ) → MarksNamed (w.nodes n)
   pub most : ℕ
   pub top : most < 2 ^ 64
   pub items : (n : ℕ) → length (w.nodes n).items ≤ most
   pub requests : suc (length w.requests) < 2 ^ 64
   pub calls : (n : ℕ) → AllByRecursion (λ (c : Call AnyRow). c.request ≤ length w.requests) (w.nodes n).calls
 
--- a step names nodes and messages that are numbers of the code
+-- a step names nodes and messages that are numbers of the code; none is `collect`, which no event is
 abbrev pub StepNamed : Step AnyRow → Type 0
 StepNamed (step.Redundancy r) = IsRedundancy r
 StepNamed (step.Deliver m) = IsNumber m
@@ -94,7 +95,7 @@ StepNamed (step.SyncAck n) = IsNumber n
 StepNamed (step.Clean n) = IsNumber n
 StepNamed (step.Work n) = IsNumber n
 StepNamed (step.Repair n) = IsNumber n
-StepNamed (step.Collect n) = IsNumber n
+StepNamed (step.Collect n) = ⊥
 StepNamed (step.Open n) = IsNumber n
 StepNamed _ = ⊤
 
@@ -166,6 +167,10 @@ module _ (k most : ℕ) (grows : k ≤ most) (high : most < 2 ^ 64) (w : World) 
   synced_lines true n after h k = tt
   synced_lines false n after h k = (((h, (k, tt)), tt), tt)
 
+  dropped_lines : (n : ℕ) (o : Option (ℕ × ℕ)) → IsNumber n → MarkNamed o → LinesFit (dropped_line n o)
+  dropped_lines n None h m = tt
+  dropped_lines n (Some version) h m = (((h, (m.0, (m.1, tt))), tt), tt)
+
   did_named : (n : ℕ) (d : Did AnyRow Layout) → IsNumber n → DidNamed most d → Named (did w n d)
   did_named n d number h =
       let sends : List (Sent AnyRow Layout) = sent_by w n d.posts in
@@ -176,8 +181,12 @@ module _ (k most : ℕ) (grows : k ≤ most) (high : most < 2 ^ 64) (w : World) 
         opens = tt;
         wanted = named.wanted;
         answer = tt;
-        lines = λ few. all_append LineFits (sent_from (suc (length w.messages)) sends) (sync_line n (w.nodes n).view d.node.view) (sent_lines (suc (length w.messages)) sends (omega (arith, few)) sent)
-            (synced_lines _ n (counts 0 Sync d.node.view.trackers n) number (or_low (entry Sync n d.node.view.trackers) (h.node.entries Sync n)));
+        lines = λ few.
+            let first : List (Line Applied) = sent_from (suc (length w.messages)) sends in
+            let last : List (Line Applied) = sync_line n (w.nodes n).view d.node.view in
+            all_append LineFits (dropped_line n d.dropped) (first ++ last) (dropped_lines n d.dropped number h.dropped)
+            (all_append LineFits first last (sent_lines (suc (length w.messages)) sends (omega (arith, few)) sent)
+            (synced_lines _ n (counts 0 Sync d.node.view.trackers n) number (or_low (entry Sync n d.node.view.trackers) (h.node.entries Sync n))));
       }
 
   received_named : (m : ℕ) (e : Effect AnyRow) → IsNumber m → Named e → Named (received m e)
@@ -191,10 +200,10 @@ module _ (k most : ℕ) (grows : k ≤ most) (high : most < 2 ^ 64) (w : World) 
   message_named f (Some x) None h = refusal_named NoSuchMessage tt
   message_named f (Some x) (Some mark) h = by_test mark.is_lost (refusal w Lost) (f x) (λ e. refusal_named Lost tt) (λ e. h x refl)
 
-  acting_named : (n : ℕ) (b : Bool) (action : Action) → IsNumber n → Named (acting any_join words layouts trio stage_trio w n b (acts any_join words layouts n (clock w n) (w.nodes n) action))
-  acting_named n b action number =
+  acting_named : (n : ℕ) (b : Bool) (action : Action) → IsElse action → IsNumber n → Named (acting any_join words layouts trio stage_trio w n b (acts any_join words layouts n (clock w n) (w.nodes n) action))
+  acting_named n b action other number =
       let a : Acted AnyRow Layout = acts any_join words layouts n (clock w n) (w.nodes n) action in
-      let h = acts_named most n (w.nodes n) (nodes_now n) (small.views n) (clock w n) small.most small.top high (small.items n) action in
+      let h = acts_named most n (w.nodes n) (nodes_now n) (small.views n) (small.marks n) (clock w n) small.most small.top high (small.items n) action other in
       by_test b (refusal w NotMember) _ (λ e. refusal_named NotMember tt) (λ e. worded_named (did w n a.did) (told a.how) refl h.1 (did_named n a.did number h.0))
 
   -- ---- layouts
@@ -275,7 +284,7 @@ module _ (k most : ℕ) (grows : k ≤ most) (high : most < 2 ^ 64) (w : World) 
 
   begun_named : (n : ℕ) (phase : Phase AnyRow) (o : Option (Call AnyRow)) → IsNumber n → Named (begun {A = Applied} {C = Cut} any_join words layouts trio stage_trio w n phase o)
   begun_named n phase None number = nothing_named
-  begun_named n phase (Some c) number = did_named n (begins words layouts w.kept (w.nodes n) c phase) number (begins_named most n (w.nodes n) (nodes_now n) (small.views n) w.kept c phase)
+  begun_named n phase (Some c) number = did_named n (begins words layouts w.kept (w.nodes n) c phase) number (begins_named most n (w.nodes n) (nodes_now n) (small.views n) (small.marks n) w.kept c phase)
 
   beginning_named : (q : ℕ) (phase : Phase AnyRow) (o : Option Request) → numbered w.requests q ≡ o → Named (beginning {A = Applied} {C = Cut} any_join words layouts trio stage_trio w q phase o)
   beginning_named q phase None is = nothing_named
@@ -294,18 +303,18 @@ module _ (k most : ℕ) (grows : k ≤ most) (high : most < 2 ^ 64) (w : World) 
       message_named _ (numbered w.messages m) (numbered w.marks m)
       (λ x e.
       let is = all_numbered SentNamed w.messages m x named.messages e in
-      received_named m _ h (did_named x.to _ is.1 (receives_named most x.to (w.nodes x.to) (nodes_now x.to) (small.views x.to) (clock w x.to) x.from x.packet is.0 is.2 (λ b f. let more = place x e b f in let few = (named.nodes x.to).blocks in omega (arith, more, few)))))
+      received_named m _ h (did_named x.to _ is.1 (receives_named most x.to (w.nodes x.to) (nodes_now x.to) (small.views x.to) (small.marks x.to) (clock w x.to) x.from x.packet is.0 is.2 (λ b f. let more = place x e b f in let few = (named.nodes x.to).blocks in omega (arith, more, few)))))
   step_named (step.Lose m) choice h place lawful = message_named _ (numbered w.messages m) (numbered w.marks m) (λ x e. silent _ nodes_now refl tt named.wanted tt tt)
   step_named (step.Expire q) choice h place lawful = expires_named q (numbered w.requests q) refl
   step_named (step.Restart n) choice h place lawful = restarted_named n
-  step_named (step.Gossip from to) choice h place lawful = did_named from (record (quiet (w.nodes from)) { posts = record { to = to; packet = shows (w.nodes from).view } ∷ [] }) h.0 (record { node = nodes_now from; posts = ((h.1, (nodes_now from).entries), tt) })
-  step_named (step.Ack n) choice h place lawful = acting_named n (has_none layouts (w.nodes n).view) RaiseAck h
-  step_named (step.Sync n) choice h place lawful = acting_named n (has_none layouts (w.nodes n).view) GoOn h
-  step_named (step.SyncAck n) choice h place lawful = acting_named n (has_none layouts (w.nodes n).view) RaiseSyncAck h
-  step_named (step.Clean n) choice h place lawful = acting_named n (has_none layouts (w.nodes n).view) CleanUp h
-  step_named (step.Work n) choice h place lawful = acting_named n (has_none layouts (w.nodes n).view) WorkOff h
-  step_named (step.Repair n) choice h place lawful = acting_named n (not (is_member_at layouts w n)) Mend h
-  step_named (step.Collect n) choice h place lawful = acting_named n (has_none layouts (w.nodes n).view) Gather h
+  step_named (step.Gossip from to) choice h place lawful = did_named from (record (quiet (w.nodes from)) { posts = record { to = to; packet = shows (w.nodes from).view } ∷ [] }) h.0 (record { node = nodes_now from; posts = ((h.1, (nodes_now from).entries), tt); dropped = tt })
+  step_named (step.Ack n) choice h place lawful = acting_named n (has_none layouts (w.nodes n).view) RaiseAck tt h
+  step_named (step.Sync n) choice h place lawful = acting_named n (has_none layouts (w.nodes n).view) GoOn tt h
+  step_named (step.SyncAck n) choice h place lawful = acting_named n (has_none layouts (w.nodes n).view) RaiseSyncAck tt h
+  step_named (step.Clean n) choice h place lawful = acting_named n (has_none layouts (w.nodes n).view) CleanUp tt h
+  step_named (step.Work n) choice h place lawful = acting_named n (has_none layouts (w.nodes n).view) WorkOff tt h
+  step_named (step.Repair n) choice h place lawful = acting_named n (not (is_member_at layouts w n)) Mend tt h
+  step_named (step.Collect n) choice h place lawful = absurd h
   step_named (step.Open n) choice h place lawful = opening_named n h
   step_named (step.Phase q phase) choice h place lawful = beginning_named q phase (numbered w.requests q) refl
   step_named (step.Close q) choice h place lawful = closing_named q (numbered w.requests q)
