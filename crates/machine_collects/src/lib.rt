@@ -8,6 +8,8 @@
 //! `R` is what a row is, `L` what a layout is, `A` what is printed of one, `C` what shows that there is none.
 #![tactic(auto)]
 
+mod samples;
+
 ghost use Rattle.std.specs.Prelude.{◌≡◌, ◌≤◌, ◌+◌, ℕ, false, None, Some, List, [], ◌++◌, IsTrue};
 ghost use Rattle.std.specs.List.{AllByRecursion};
 ghost use Rattle.crdt_core.specs.Members.{Has};
@@ -22,6 +24,8 @@ ghost use Rattle.machine_collects.specs.Versions.{Version, Versions, VersionLaws
 ghost use Rattle.machine_collects.specs.Prompt.{IsPrompt};
 ghost use Rattle.machine_collects.specs.Carried.{Carries};
 ghost use Rattle.machine_collects.specs.Without.{AreOther, IsBare};
+
+pub use samples::a_run_collects;
 
 /// From the moment at which a delete marker was collected, in every prompt run of the cluster's machine: no node has
 /// a row of its key with a version below it, and no message that may still come, an answer or a row to be stored,
