@@ -63,7 +63,7 @@ use Rattle.store_laws.proofs.Covering.{IsSaid}
 use Rattle.store_laws.proofs.Records.{acknowledged_is, is_in}
 use Rattle.store_laws.proofs.Values.{read_written}
 use Rattle.store_laws.proofs.Acting.{number_fits}
-use Rattle.store_anchors.specs.Copied.{Copying, IsTaken}
+use Rattle.store_anchors.specs.Copied.{Copying}
 use Rattle.store_anchors.specs.Stored.{blocks_of}
 use Rattle.store_anchors.specs.Whole.{SaysAllBytes}
 use Rattle.store_anchors.proofs.Cited.{Cited}
@@ -73,7 +73,7 @@ use Rattle.store_anchors.proofs.Lines.{Tells, tells_later, tells_none, tells_one
 use Rattle.store_anchors.proofs.Naming.{named}
 use Rattle.store_anchors.proofs.Reading.{finds, piece_there}
 use Rattle.store_anchors.proofs.Sources.{not_below, said_found}
-use Rattle.store_anchors.proofs.Taking.{AreTaken, FollowsCopies, HasBegun, HasSource, IsFollowed, IsFollowedIn, IsOfSource, Knows, KnowsOn, followed_first, followed_set, followed_told}
+use Rattle.store_anchors.proofs.Taking.{AreTaken, FollowsCopies, HasBegun, HasSource, IsFollowed, IsFollowedIn, IsOfSource, IsTakenIf, Knows, KnowsOn, followed_first, followed_set, followed_told}
 use Rattle.cluster_machine.specs.declared.line.Line.TheVariants.{Done, Listed as Shows, Ended as HasEnded}
 use Rattle.cluster_machine.specs.declared.line.EndWord.TheVariants.{Superseded as EndedSo}
 use Rattle.flow_model.specs.Next.{wanted}
@@ -172,11 +172,11 @@ module _ {H : Deed → Type 0} where
     IsIt copy = (copy.request ≡ q) × IsFollowedIn (¬ H collects) moves s copy
 
     -- what the request knows where it is a copy
-    know : (stage : Stage) → a.flow ≡ Some (flow_of q block stage) → (copy : Copying) → IsIt copy → Knows (blocks_of moves) s.draws copy stage
+    know : (stage : Stage) → a.flow ≡ Some (flow_of q block stage) → (copy : Copying) → IsIt copy → Knows (¬ H collects) (blocks_of moves) s.draws copy stage
     know stage flow_is copy it = it.1.knows a (flow_of q block stage) (ap (numbered s.asked) it.0 ∙ at) flow_is
 
     -- a copy follows where the request goes
-    follows : (ds : List Draw) (flow : Option Flow) (rest : List Moving) → AllByRecursion (λ (d : Draw). d.request ≡ q) ds → ((copy : Copying) → IsIt copy → KnowsOn (blocks_of moves) s.draws s.asked s.history q a at ds flow copy) →
+    follows : (ds : List Draw) (flow : Option Flow) (rest : List Moving) → AllByRecursion (λ (d : Draw). d.request ≡ q) ds → ((copy : Copying) → IsIt copy → KnowsOn (blocks_of moves) s.draws s.asked s.history q a at (¬ H collects) ds flow copy) →
         (copy : Copying) → IsFollowedIn (¬ H collects) moves s copy → IsFollowed (¬ H collects) (blocks_of (moves ++ rest)) (ds ++ s.draws) (set_flow s q a flow) s.history copy
     follows ds flow rest own knows copy h =
         followed_first moves rest (ds ++ s.draws) (set_flow s q a flow) s.history copy
@@ -184,17 +184,17 @@ module _ {H : Deed → Type 0} where
 
     -- the request draws and goes on
     pub draws_on : (ds : List Draw) (stage : Stage) (phase : Phase AnyRow) → GoesLaid cited moves s q a at rests block laid ds stage phase → AllByRecursion (λ (d : Draw). d.request ≡ q) ds →
-        ((copy : Copying) → IsIt copy → Knows (blocks_of moves) (ds ++ s.draws) copy stage × AreTaken (blocks_of moves) copy (ds ++ s.draws)) → StepLaid ds (More (flow_of q block stage) phase)
+        ((copy : Copying) → IsIt copy → Knows (¬ H collects) (blocks_of moves) (ds ++ s.draws) copy stage × AreTaken (¬ H collects) (blocks_of moves) copy (ds ++ s.draws)) → StepLaid ds (More (flow_of q block stage) phase)
     draws_on ds stage phase h own knows fits = (
       h fits,
       step_whole (past (moves ++ phases q phase ∷ []) (doing s (phases q phase)).world (ds ++ s.draws)) s (phases q phase),
       follows ds (Some (flow_of q block stage)) (phases q phase ∷ []) own (λ copy it. (
-        (λ f e. (let same : flow_of q block stage ≡ f = cc in subst (λ (g : Flow). Knows (blocks_of moves) (ds ++ s.draws) copy g.stage) same (knows copy it).0)),
+        (λ f e. (let same : flow_of q block stage ≡ f = cc in subst (λ (g : Flow). Knows (¬ H collects) (blocks_of moves) (ds ++ s.draws) copy g.stage) same (knows copy it).0)),
         (knows copy it).1,
       )),
     )
 
-    pub goes : (stage : Stage) (phase : Phase AnyRow) → GoesLaid cited moves s q a at rests block laid [] stage phase → ((copy : Copying) → IsIt copy → Knows (blocks_of moves) s.draws copy stage) → StepLaid [] (More (flow_of q block stage) phase)
+    pub goes : (stage : Stage) (phase : Phase AnyRow) → GoesLaid cited moves s q a at rests block laid [] stage phase → ((copy : Copying) → IsIt copy → Knows (¬ H collects) (blocks_of moves) s.draws copy stage) → StepLaid [] (More (flow_of q block stage) phase)
     goes stage phase h knows = draws_on [] stage phase h tt (λ copy it. (knows copy it, it.1.taken))
 
     ends : (end : FlowEnd) → ((p id : ℕ) → record_of q end ≡ Ended p (WasSuperseded id) → EndsRightly (¬ H collects) moves s p id) → Tells here (lines_of_end q a.kind end) → StepLaid [] (End end)
@@ -211,12 +211,12 @@ module _ {H : Deed → Type 0} where
     ends_otherwise end other tells = ends end (λ p id e. absurd (otherwise_recorded q end other p id e)) tells
 
     -- it needs its client
-    needs : (stage : Stage) → Holds here q block stage → ((copy : Copying) → IsIt copy → Knows (blocks_of moves) s.draws copy stage) → (wanted : ℕ) → StepLaid [] (Need (flow_of q block stage) wanted)
+    needs : (stage : Stage) → Holds here q block stage → ((copy : Copying) → IsIt copy → Knows (¬ H collects) (blocks_of moves) s.draws copy stage) → (wanted : ℕ) → StepLaid [] (Need (flow_of q block stage) wanted)
     needs stage holds knows wanted fits = (
       needs_laid cited moves s q a at rests block laid stage holds,
       tells_none (past (moves ++ []) s.world s.draws),
       follows [] (Some (flow_of q block stage)) [] tt (λ copy it. (
-        (λ f e. (let same : flow_of q block stage ≡ f = cc in subst (λ (g : Flow). Knows (blocks_of moves) s.draws copy g.stage) same (knows copy it))),
+        (λ f e. (let same : flow_of q block stage ≡ f = cc in subst (λ (g : Flow). Knows (¬ H collects) (blocks_of moves) s.draws copy g.stage) same (knows copy it))),
         it.1.taken,
       )),
     )
@@ -247,11 +247,11 @@ module _ {H : Deed → Type 0} where
 
     -- the request found a version of its source where it is a copy
     abbrev pub FoundSource : Version → Aim → Type 0
-    FoundSource v aim = (copy : Copying) → IsIt copy → HasSource s.draws copy v aim
+    FoundSource v aim = (copy : Copying) → IsIt copy → HasSource (¬ H collects) s.draws copy v aim
 
     -- what a copy writes was written to its source
-    takes_source : AreApart s.draws → (copy : Copying) (name : Name) (headers : Option (List (List ℕ × List ℕ))) (v : Version) (meta : Meta) (body : List ℕ) → IsBodyOf (blocks_of moves) s.draws v meta body → HasSource s.draws copy v (aim.Copy name headers) →
-        IsTaken (blocks_of moves) s.draws copy (wish.Content (record { body = body; headers = unwrap_or headers meta.headers }))
+    takes_source : AreApart s.draws → (copy : Copying) (name : Name) (headers : Option (List (List ℕ × List ℕ))) (v : Version) (meta : Meta) (body : List ℕ) → IsBodyOf (blocks_of moves) s.draws v meta body → HasSource (¬ H collects) s.draws copy v (aim.Copy name headers) →
+        IsTakenIf (¬ H collects) (blocks_of moves) s.draws copy (wish.Content (record { body = body; headers = unwrap_or headers meta.headers }))
     takes_source apart copy name headers v meta body h source =
         let f : FoundIn s.draws copy.source v = source.0 in
         let w : IsWritten s.draws v h.content = h.was_written in
@@ -260,7 +260,7 @@ module _ {H : Deed → Type 0} where
         record {
           draw = f.draw;
           drawn = f.drawn;
-          fresh = λ i w ack. subst (λ (u : Version). ¬ Below u w) (sym f.version) (source.2 w (acknowledged_was copy.history i copy.source w ack));
+          fresh = λ never i w ack. subst (λ (u : Version). ¬ Below u w) (sym f.version) (source.2 never w (acknowledged_was copy.history i copy.source w ack));
           bucket = f.bucket;
           key = f.key;
           was = h.content;
@@ -358,9 +358,9 @@ module _ {H : Deed → Type 0} where
 
     -- what the request wishes was written to its source, where it is a copy
     abbrev pub WishesSource : Wish → Type 0
-    WishesSource w = (copy : Copying) → IsIt copy → IsTaken (blocks_of moves) s.draws copy w
+    WishesSource w = (copy : Copying) → IsIt copy → IsTakenIf (¬ H collects) (blocks_of moves) s.draws copy w
 
-    taken_so : (name : Name) (w : Wish) (v : Version) (moment : ℕ) → WishesSource w → (copy : Copying) → IsIt copy → ⊤ × AreTaken (blocks_of moves) copy (draw_so name w v moment ∷ s.draws)
+    taken_so : (name : Name) (w : Wish) (v : Version) (moment : ℕ) → WishesSource w → (copy : Copying) → IsIt copy → ⊤ × AreTaken (¬ H collects) (blocks_of moves) copy (draw_so name w v moment ∷ s.draws)
     taken_so name w v moment source copy it = (tt, ((λ own. source copy it), it.1.taken))
 
     writes_laid : (name : Name) (v : Version) (w : Wish) (moment : ℕ) → WishesSource w → StepLaid (draw_so name w v moment ∷ []) (writes q block name v w)
@@ -462,7 +462,7 @@ module _ {H : Deed → Type 0} where
           let cut : s.history ≡ copy.history ++ began q b.node b.kind b.name ∷ b.after = subst (λ (r : ℕ). s.history ≡ copy.history ++ began r b.node b.kind b.name ∷ b.after) it.0 b.cut in (
             subst (λ (n : Name). FoundIn s.draws n v) k.0 f,
             k.1,
-            λ w ack. not_below cited moves s sound laid q a at block name aim flow_is value end it.1.holds copy.history b.after b.node b.kind b.name cut said v e one w (subst (λ (n : Name). WasAcknowledged copy.history n w) (sym k.0) ack),
+            λ never w ack. not_below cited moves s sound laid q a at block name aim flow_is value end never copy.history b.after b.node b.kind b.name cut said v e one w (subst (λ (n : Name). WasAcknowledged copy.history n w) (sym k.0) ack),
           )
 
       read_source : (said : Said) → said_of value ≡ said → SaysSource cited moves s q a at rests block laid said aim

@@ -64,9 +64,9 @@ module _ {H : Deed → Type 0} where
       let lengths : length s.asked ≡ length s.world.requests = sound.lengths in
       absurd (omega arith)
 
-  opened_follows : ¬ H collects → (ms : List Moving) (s : State) (n : ℕ) (copy : Copying) (name : Name) → IsSound H s → ((id : ℕ) → Contains s.history (Ended copy.request (Superseded id)) → ⊥) → s.history ≡ copy.history → suc (length s.world.requests) ≡ copy.request →
+  opened_follows : (ms : List Moving) (s : State) (n : ℕ) (copy : Copying) (name : Name) → IsSound H s → ((id : ℕ) → Contains s.history (Ended copy.request (Superseded id)) → ⊥) → s.history ≡ copy.history → suc (length s.world.requests) ≡ copy.request →
       IsFollowedIn (¬ H collects) ms (opened s n (order_of copy name)).state copy
-  opened_follows none ms s n copy name sound never past is =
+  opened_follows ms s n copy name sound never past is =
       let o : Order = order_of copy name in
       let q : ℕ = suc (length s.world.requests) in
       let flow : Flow = (started o q s.block).0 in
@@ -83,13 +83,12 @@ module _ {H : Deed → Type 0} where
             let one_is : a ≡ b = cc in
             let flows : Some flow ≡ Some f = ap (λ (x : Asked). x.flow) one_is ∙ flow_is in
             let same : flow ≡ f = cc in
-            subst (λ (g : Flow). Knows (blocks_of ms) s.draws copy g.stage) same (refl, refl);
-        taken = none_taken (blocks_of ms) copy s.draws (λ d c own. next_is_new s sound d c (own ∙ sym is));
+            subst (λ (g : Flow). Knows (¬ H collects) (blocks_of ms) s.draws copy g.stage) same (refl, refl);
+        taken = none_taken (¬ H collects) (blocks_of ms) copy s.draws (λ d c own. next_is_new s sound d c (own ∙ sym is));
         ended = λ id c. elim (Contains-append_cases s.history (began_with q n o ∷ []) (Ended copy.request (Superseded id)) c) [
           | inl was ↦ absurd (never id was)
           | inr new ↦ absurd (began_is_no_end q n o copy.request id (only (began_with q n o) (Ended copy.request (Superseded id)) new))
         ];
-        holds = none;
       }
 
 number_is : (p q : ℕ) → One p ≡ One q → p ≡ q
@@ -99,15 +98,15 @@ no_number : (q : ℕ) → Empty ≡ One q → ⊥
 no_number q e = cc
 
 module _ {H : Deed → Type 0} where
-  begins_follows : ¬ H collects → (ms : List Moving) (s : State) (n : ℕ) (copy : Copying) (name : Name) → IsSound H s → IsLaidIn H ms s → s.history ≡ copy.history → (let o = begins s n (order_of copy name) in o.words ≡ One copy.request → IsFollowedIn (¬ H collects) (ms ++ o.moves) o.state copy)
-  begins_follows never ms s n copy name sound laid past =
+  begins_follows : (ms : List Moving) (s : State) (n : ℕ) (copy : Copying) (name : Name) → IsSound H s → IsLaidIn H ms s → s.history ≡ copy.history → (let o = begins s n (order_of copy name) in o.words ≡ One copy.request → IsFollowedIn (¬ H collects) (ms ++ o.moves) o.state copy)
+  begins_follows ms s n copy name sound laid past =
       let o : Order = order_of copy name in
       let Follows : Outcome → Type 0 = λ (x : Outcome). x.words ≡ One copy.request → IsFollowedIn (¬ H collects) (ms ++ x.moves) x.state copy in
       elim (is_member_at layouts s.world n) as (λ b. Follows (if b then (if are_buckets s.buckets (buckets_of o) then opened s n o else refusal s NoSuchBucket) else refusal s NotMember)) [
         | true ↦ elim (are_buckets s.buckets (buckets_of o)) as (λ b. Follows (if b then opened s n o else refusal s NoSuchBucket)) [
           | true ↦ λ is.
               let number : suc (length s.world.requests) ≡ copy.request = number_is (suc (length s.world.requests)) copy.request is in
-              opened_follows never (ms ++ (opened s n o).moves) s n copy name sound
+              opened_follows (ms ++ (opened s n o).moves) s n copy name sound
               (λ id c. next_is_open ms s sound laid id (subst (λ (q : ℕ). Contains s.history (Ended q (Superseded id))) (sym number) c)) past number
           | false ↦ λ is. absurd (no_number copy.request is)
         ]
@@ -118,9 +117,9 @@ module _ {H : Deed → Type 0} where
 
 module _ {H : Deed → Type 0} where
   module _ (cited : Cited H) where
-    asked_copies : ¬ H collects → (copy : Copying) (before : List Act) (node : ℕ) (name : Name) (after : List Act) → (after_acts start before).history ≡ copy.history → (let acts = before ++ asks node (order_of copy name) ∷ after in AreLawfulActs start acts → ActsIn H start acts →
+    asked_copies : (copy : Copying) (before : List Act) (node : ℕ) (name : Name) (after : List Act) → (after_acts start before).history ≡ copy.history → (let acts = before ++ asks node (order_of copy name) ∷ after in AreLawfulActs start acts → ActsIn H start acts →
         (acted (after_acts start before) (asks node (order_of copy name))).words ≡ One copy.request → IsFollowedIn (¬ H collects) (moves_in start acts) (after_acts start acts) copy)
-    asked_copies never copy before node name after past lawful fit begins =
+    asked_copies copy before node name after past lawful fit begins =
         let a : Act = asks node (order_of copy name) in
         let s : State = after_acts start before in
         let ms : List Moving = moves_in start before in
@@ -130,31 +129,31 @@ module _ {H : Deed → Type 0} where
         let first : IsHeld H ms s = (acts_held cited [] start before laws.0 fits.0 (start_held cited)).0 in
         let held_then : IsHeld H (ms ++ (o.moves ++ [])) o.state = (acts_held cited ms s (a ∷ []) (laws.1.0, tt) (fits.1.0, tt) first).0 in
         let now : IsHeld H (ms ++ o.moves) o.state = subst (λ (k : List Moving). IsHeld H (ms ++ k) o.state) (append-nil o.moves) held_then in
-        let begun : IsFollowedIn (¬ H collects) (ms ++ o.moves) o.state copy = begins_follows never ms s node copy name first.sound first.laid past begins in
+        let begun : IsFollowedIn (¬ H collects) (ms ++ o.moves) o.state copy = begins_follows ms s node copy name first.sound first.laid past begins in
         let last : State = after_acts o.state after in
         let all : IsFollowedIn (¬ H collects) (ms ++ (o.moves ++ moves_in o.state after)) last copy =
         followed_joined ms o.moves (moves_in o.state after) last copy ((acts_held cited (ms ++ o.moves) o.state after laws.1.1 fits.1.1 now).2 copy begun) in
         let ends : IsFollowedIn (¬ H collects) (moves_in start (before ++ a ∷ after)) last copy = subst (λ (k : List Moving). IsFollowedIn (¬ H collects) k last copy) (sym (moves_after start before (a ∷ after))) all in
         subst (λ (x : State). IsFollowedIn (¬ H collects) (moves_in start (before ++ a ∷ after)) x copy) (sym (acts_after start before (a ∷ after))) ends
 
-    followed : ¬ H collects → (acts : List Act) → AreLawfulActs start acts → ActsIn H start acts → (copy : Copying) → IsAskedIn acts copy → IsFollowedIn (¬ H collects) (moves_in start acts) (after_acts start acts) copy
-    followed never acts lawful fit copy asked =
+    followed : (acts : List Act) → AreLawfulActs start acts → ActsIn H start acts → (copy : Copying) → IsAskedIn acts copy → IsFollowedIn (¬ H collects) (moves_in start acts) (after_acts start acts) copy
+    followed acts lawful fit copy asked =
         let moves : List Act = asked.before ++ asks asked.node (order_of copy asked.name) ∷ asked.after in
         let there : IsFollowedIn (¬ H collects) (moves_in start moves) (after_acts start moves) copy =
-        asked_copies never copy asked.before asked.node asked.name asked.after asked.history_is (subst (AreLawfulActs start) asked.acts_are lawful) (subst (ActsIn H start) asked.acts_are fit) asked.begins in
+        asked_copies copy asked.before asked.node asked.name asked.after asked.history_is (subst (AreLawfulActs start) asked.acts_are lawful) (subst (ActsIn H start) asked.acts_are fit) asked.begins in
         subst (λ (as' : List Act). IsFollowedIn (¬ H collects) (moves_in start as') (after_acts start as') copy) (sym asked.acts_are) there
 
     pub copies : ¬ H collects → (acts : List Act) → AreLawfulActs start acts → ActsIn H start acts → CopiesSources acts
     copies never acts lawful fit copy asked newer d older cut own =
-        taken_of (blocks_of (moves_in start acts)) copy newer d older (subst (AreTaken (blocks_of (moves_in start acts)) copy) cut (followed never acts lawful fit copy asked).taken) own
+        taken_of never (blocks_of (moves_in start acts)) copy newer d older (subst (AreTaken (¬ H collects) (blocks_of (moves_in start acts)) copy) cut (followed acts lawful fit copy asked).taken) own
 
     -- the version with which it ended was drawn once, and so for its source
-    pub copies_end : ¬ H collects → (acts : List Act) → AreLawfulActs start acts → ActsIn H start acts → CopiesEndRightly acts
-    copies_end never acts lawful fit copy id asked c =
+    pub copies_end : (acts : List Act) → AreLawfulActs start acts → ActsIn H start acts → CopiesEndRightly acts
+    copies_end acts lawful fit copy id asked c =
         let s : State = after_acts start acts in
         let now : IsHeld H (moves_in start acts) s = held cited acts lawful fit in
         let was : IsReplaced acts copy.request id = rightly cited acts lawful fit copy.request id c in
-        let read : IsOfSource s.draws copy id = (followed never acts lawful fit copy asked).ended id c in
+        let read : IsOfSource s.draws copy id = (followed acts lawful fit copy asked).ended id c in
         let d : Draw = read.found.draw in
         let one : IsOneWrite d was.draw = draws_apart s now.sound now.once d was.draw read.found.drawn was.drawn (ap (λ (v : Version). v.id) read.found.version ∙ (read.id_is ∙ sym was.id_is)) in
         let same : d.name ≡ was.draw.name = one_name d was.draw one in

@@ -29,7 +29,7 @@ use Rattle.store_laws.proofs.Hashing.{FitIn}
 use Rattle.store_laws.proofs.Hearing.{needing_rests}
 use Rattle.store_laws.proofs.Once.{IsOnceIn}
 use Rattle.store_laws.proofs.Sound.{IsSound}
-use Rattle.store_anchors.specs.Copied.{Copying, IsTaken}
+use Rattle.store_anchors.specs.Copied.{Copying}
 use Rattle.store_anchors.specs.Stored.{blocks_of}
 use Rattle.store_anchors.proofs.Acting.{OutcomeLaid, goes, draws_on}
 use Rattle.store_anchors.proofs.Cited.{Cited}
@@ -40,15 +40,15 @@ use Rattle.store_anchors.proofs.Going.{fed_laid, aborting_laid, completes_laid}
 use Rattle.store_anchors.proofs.Kept.{Past, HasAll, IsLong}
 use Rattle.store_anchors.proofs.Laid.{HasReceived, AreStored, past, IsLaidIn}
 use Rattle.store_anchors.proofs.Lines.{tells_none}
-use Rattle.store_anchors.proofs.Taking.{AreTaken, followed_first}
+use Rattle.store_anchors.proofs.Taking.{AreTaken, IsTakenIf, followed_first}
 use Rattle.store_anchors.proofs.Told.{complete_given_up}
 use Rattle.store_laws.proofs.Deeds.{Deed}
 
 -- a draw of a copy took what was written before it
-taken_there : (blocks : List (List ℕ)) (copy : Copying) (draws : List Draw) (d : Draw) → Contains draws d → AreTaken blocks copy draws → d.request ≡ copy.request → (older : List Draw) × IsTaken blocks older copy d.wish
+taken_there : {C : Type 0} (blocks : List (List ℕ)) (copy : Copying) (draws : List Draw) (d : Draw) → Contains draws d → AreTaken C blocks copy draws → d.request ≡ copy.request → (older : List Draw) × IsTakenIf C blocks older copy d.wish
 taken_there blocks copy [] d c taken own = absurd (none_in d c)
-taken_there blocks copy (x ∷ older) d c taken own = elim (cons_cases x older d c) [
-  | inl here ↦ subst (λ (y : Draw). (before : List Draw) × IsTaken blocks before copy y.wish) here (older, taken.0 (ap (λ (y : Draw). y.request) here ∙ own))
+taken_there {C = C} blocks copy (x ∷ older) d c taken own = elim (cons_cases x older d c) [
+  | inl here ↦ subst (λ (y : Draw). (before : List Draw) × IsTakenIf C blocks before copy y.wish) here (older, taken.0 (ap (λ (y : Draw). y.request) here ∙ own))
   | inr more ↦ taken_there blocks copy older d more taken.1 own
 ]
 

@@ -21,7 +21,7 @@ use Rattle.store_anchors.specs.Whole.{GivesAllBytes}
 abbrev pub WalksAreClear : List Act → Type 0
 WalksAreClear acts = NoTrieClash (ActsHash start acts)
 
--- what is promised of acts: each layout in use has the greatest partition size, what answers tell of a version's bytes is as was written, and replicas are equal. And where no digests of walks clash: each phase of a read gave, joined with what was collected, at least all rows that were kept before it began; what answers tell of bytes in blocks is as was written too where no two blocks have one digest; a get ends superseded only where its object was overwritten, and no request waits for what never comes; acknowledged blocks that are not deleted lie at a node with a live reference; and if none of the acts is `collect`, answered reads are fresh, also by the records alone where the buckets' names have different digests, a copy takes what was written to its source, and ends superseded only where its source was overwritten
+-- what is promised of acts: each layout in use has the greatest partition size, what answers tell of a version's bytes is as was written, and replicas are equal. And where no digests of walks clash: each phase of a read gave, joined with what was collected, at least all rows that were kept before it began; what answers tell of bytes in blocks is as was written too where no two blocks have one digest; a get or copy ends superseded only where what it read was overwritten, of a get its object and of a copy its source, and no request waits for what never comes; acknowledged blocks that are not deleted lie at a node with a live reference; and if none of the acts is `collect`, answered reads are fresh, also by the records alone where the buckets' names have different digests, and a copy takes what was written to its source
 pub record KeepsPromises (acts : List Act) : Type 0 where
   pub greatest : UsesGreatest (after_acts start acts).world
   pub written : GivesWhatWasWritten acts
@@ -32,7 +32,7 @@ pub record KeepsPromises (acts : List Act) : Type 0 where
   pub whole : WalksAreClear acts → BlocksDiffer acts → GivesAllBytes acts
   pub copied : WalksAreClear acts → NeverCollect acts → CopiesSources acts
   pub superseded : WalksAreClear acts → IsRightlySuperseded acts
-  pub copies_end : WalksAreClear acts → NeverCollect acts → CopiesEndRightly acts
+  pub copies_end : WalksAreClear acts → CopiesEndRightly acts
   pub goes_on : WalksAreClear acts → GoesOn (after_acts start acts)
   pub anchored : WalksAreClear acts → BlocksDiffer acts → IsAnchored acts
 

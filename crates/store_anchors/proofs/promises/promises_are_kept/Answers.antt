@@ -13,7 +13,7 @@ returns c acts lawful fit moment is =
       whole = λ clear. c.gets_read_whole_versions.ensures.bytes moment run.0 run.1 clear;
       copied = λ clear never. c.copies_take_what_was_written.ensures.takes moment run.0 run.1 clear never;
       superseded = λ clear. c.gets_read_whole_versions.ensures.superseded moment run.0 run.1 clear;
-      copies_end = λ clear never. c.copies_take_what_was_written.ensures.superseded moment run.0 run.1 clear never;
+      copies_end = λ clear. c.copies_take_what_was_written.ensures.superseded moment run.0 run.1 clear;
       goes_on = λ clear. c.gets_read_whole_versions.ensures.goes_on moment run.0 run.1 clear;
       anchored = λ clear. c.acknowledged_blocks_are_anchored.ensures moment run.0 run.1 clear;
     }
