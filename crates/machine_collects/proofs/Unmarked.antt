@@ -50,13 +50,13 @@ module _ {R : Type 0} (join : R → R → R) (s : Words R) (unmarked : (r : R) �
       ap (λ (m : Option (ℕ × ℕ)). cond (is_spelled s r && is_aged now m) more t) (unmarked r) ∙ by_spelled (is_spelled s r) more t
 
   about_none : (id now version : ℕ) (r : R) (t : Progress R L) → t.gc.collections ≡ [] → about join s k id now version r (keyed (s.key r) t.gc) t ≡ t
-  about_none id now version r t empty =
-      let none : keyed (s.key r) t.gc ≡ None = ap (λ (cs : List Collection). find (λ c. pointwise nat_eq c.key (s.key r)) cs) empty in
+  about_none id now version r t closed_all =
+      let none : keyed (s.key r) t.gc ≡ None = ap (λ (cs : List Collection). find (λ c. pointwise nat_eq c.key (s.key r)) cs) closed_all in
       ap (λ (o : Option Collection). about join s k id now version r o t) none ∙ begins_none id now version r t
 
   about_all_none : (id now version : ℕ) (rs : List R) (t : Progress R L) → t.gc.collections ≡ [] → about_all join s k id now version rs t ≡ t
-  about_all_none id now version [] t empty = refl
-  about_all_none id now version (r ∷ rs) t empty = ap (about_all join s k id now version rs) (about_none id now version r t empty) ∙ about_all_none id now version rs t empty
+  about_all_none id now version [] t closed_all = refl
+  about_all_none id now version (r ∷ rs) t closed_all = ap (about_all join s k id now version rs) (about_none id now version r t closed_all) ∙ about_all_none id now version rs t closed_all
 
   module _ (id now : ℕ) (x : Node R L) (none : HasNone x) where
     abbrev start : Progress R L
@@ -83,13 +83,13 @@ module _ {R : Type 0} (join : R → R → R) (s : Words R) (unmarked : (r : R) �
   acts_none id now x WorkOff none = ap (λ (o : Collections). o.collections) (acts_same join s k id x now WorkOff tt) ∙ none
   acts_none id now x Mend none = ap (λ (o : Collections). o.collections) (acts_same join s k id x now Mend tt) ∙ none
 
-module _ {R L A C : Type 0} (join : R → R → R) (s : Words R) (unmarked : (r : R) → s.marker r ≡ None) (k : Layouts L) (trio : L) (trio_roles : List Role → List Role) where
-  -- no message is about collections, nothing was collected, and no node has an open collection
-  record IsUnopened (w : World R L) : Type 0 where
-    messages : AreBareSent w.messages
-    collected : w.collected ≡ []
-    nodes : (n : ℕ) → HasNone (w.nodes n)
+-- no message is about collections, nothing was collected, and no node has an open collection
+record IsUnopened {R L : Type 0} (w : World R L) : Type 0 where
+  messages : AreBareSent w.messages
+  collected : w.collected ≡ []
+  nodes : (n : ℕ) → HasNone (w.nodes n)
 
+module _ {R L : Type 0} (A C : Type 0) (join : R → R → R) (s : Words R) (unmarked : (r : R) → s.marker r ≡ None) (k : Layouts L) (trio : L) (trio_roles : List Role → List Role) where
   module _ (w : World R L) (i : IsUnopened w) where
     -- no node has one after the step
     abbrev None_open : Effects R L A C → Type 0
@@ -171,7 +171,7 @@ module _ {R L A C : Type 0} (join : R → R → R) (s : Words R) (unmarked : (r 
     effects_none (Close q) choice = closing_none q (numbered w.requests q)
 
     -- nothing is sent about collections, and nothing is collected
-    bare_step : (st : Step R) (choice : Choice L A C) → BareStep (effects join s k trio trio_roles w st choice)
+    bare_step : (st : Step R) (choice : Choice L A C) → BareStep join s k trio trio_roles (effects join s k trio trio_roles w st choice)
     bare_step (Collect n) choice = bare_acting join s k trio trio_roles w n (has_none k (w.nodes n).view) (acts join s k n (clock w n) (w.nodes n) Gather) (collects_bare join s unmarked k n (clock w n) (w.nodes n) (i.nodes n))
     bare_step Trio choice = bare_effects join s k trio trio_roles w Trio choice i.messages tt
     bare_step (Stage n role) choice = bare_effects join s k trio trio_roles w (Stage n role) choice i.messages tt

@@ -1,11 +1,12 @@
 //! A run of the machine that collects a delete marker, worked out by hand from its rules. No body does anything: each is
 //! called for its contract.
-ghost use Rattle.std.specs.Prelude.{◌≡◌, ◌++◌, ◌∷◌, [], length};
+ghost use Rattle.std.specs.Prelude.{◌≡◌, ◌++◌, ◌∷◌, [], Some, length};
 ghost use Rattle.cluster_machine.specs.declared.step.Step.TheVariants.{Collect};
 ghost use Rattle.cluster_machine.specs.declared.step.Words.TheVariants.{Two};
+ghost use Rattle.table_model.specs.Rows.{row_at};
 ghost use Rattle.cluster_machine.specs.World.{empty};
-ghost use Rattle.machine_laws.specs.Toy.{plain};
-ghost use Rattle.machine_collects.specs.Marked.{done_by, world_after, first_round, confirmed, second_round, last_answer};
+ghost use Rattle.machine_laws.specs.Toy.{greater, home, plain};
+ghost use Rattle.machine_collects.specs.Marked.{markers, done_by, world_after, first_round, confirmed, second_round, last_answer};
 
 /// A marker that is a day old is collected by two rounds, three hours apart: one collection begins (`begins`), waits for three
 /// hours after all have confirmed (`waits`), goes on then (`goes_on`), and with the last answer of the second round node 1
@@ -19,5 +20,5 @@ pub fn a_run_collects()
     ensures collects { (let w = world_after empty (first_round ++ confirmed ++ second_round ++ last_answer) in
         (w.collected ≡ record { key = 97; value = 1 } ∷ []) × ((w.nodes 1).accepted ≡ [])) }
     ensures ends { (let w = world_after empty (first_round ++ confirmed ++ second_round ++ last_answer) in
-        (length (w.nodes 1).gc.collections ≡ 0) × ((w.nodes 2).accepted ≡ record { key = 97; value = 1 } ∷ [])) }
+        (length (w.nodes 1).gc.collections ≡ 0) × (row_at greater markers (w.nodes 2).accepted 1 (home ++ 97 ∷ []) ≡ Some (record { key = 97; value = 1 }))) }
 {}
