@@ -25,7 +25,7 @@ use Rattle.flow_model.specs.Next.{next as flow_next}
 use Rattle.flow_model.specs.Streams as stream
 use Rattle.flow_model.specs.Streams.{fed, finished, given_up}
 use Rattle.store_model.specs.Orders.{buckets_of}
-use Rattle.store_model.specs.Run.{World, Moving, State, Asked, Draw, Outcome, silent, refusal, plainly, doing, effect, are_buckets, opened, begins, takes, follows, follow, goes_on, delivers, then_drains, drains, hears, heard_in, heard, fills_at}
+use Rattle.store_model.specs.Run.{World, Moving, State, Asked, Draw, Outcome, silent, refusal, plainly, doing, effect, are_buckets, opened, begins, draws_of, takes, follows, follow, goes_on, delivers, then_drains, drains, hears, heard_in, heard, fills_at}
 use Rattle.store_model.specs.Acts.{Act, moves, installs, asks, delivery, drain, forgets, takes as takes_end, adds, cuts, feeds, keeps, gives_up, acted}
 use Rattle.store_model.specs.declared.event.Event.{Event}
 use Rattle.store_model.specs.declared.event.Event.TheVariants as event
@@ -97,7 +97,9 @@ takes_other s q a draws (End end) = (tt, tt)
 
 follows_other : (s : State) (q : ℕ) (a : Asked) (end : PhaseEnd AnyRow) (o : Option Flow) → AreOther (follows s q a end o).moves
 follows_other s q a end None = tt
-follows_other s q a end (Some f) = takes_other _ q a _ (flow_next f end (clock s.world a.node))
+follows_other s q a end (Some f) =
+    let now : ℕ = clock s.world a.node in
+    takes_other (record s { saw = record { request = q; end = end } ∷ s.saw }) q a (draws_of s q f.block f.stage end now) (flow_next f end now)
 
 follow_other : (s : State) (q : ℕ) (o : Option Asked) (end : PhaseEnd AnyRow) → AreOther (follow s q o end).moves
 follow_other s q None end = tt

@@ -12,7 +12,7 @@ use Rattle.store_model.specs.Acts.{Act, moves, acted}
 
 -- the strings that these steps hash
 abbrev pub StepsHash : World → List Moving → List ℕ → Type 0
-StepsHash w moves x = RunHashes words any_join layouts trio stage_trio w moves x
+StepsHash w ms x = RunHashes words any_join layouts trio stage_trio w ms x
 
 -- and those that these acts do
 abbrev pub ActsHash : State → List Act → List ℕ → Type 0
