@@ -29,6 +29,7 @@ use Rattle.cluster_machine.specs.Layouts.{layouts, is_given, is_stored}
 use Rattle.cluster_machine.specs.Node.{Question, Scan, Present, resting, asking, scanning, storing, fetching, Call, Walk, Round, Mending, Packet, says, shows, Ended, Did, quiet}
 use Rattle.cluster_machine.specs.Rows.{block_at}
 use Rattle.cluster_machine.specs.Phases.{call_at, asked, looked, stored, value_after, row_came, window_at, rows_came, stored_came, block_came, at_call}
+use Rattle.cluster_machine.specs.Collects.{forgets, tomb_came}
 use Rattle.cluster_machine.specs.Rounds.{walk_at, round_walks, mending_walks, at_walk, mending_came, with_mending, with_lasting, late_came, answer_came}
 use Rattle.cluster_machine.specs.Receives.{most_rows, gives_block, walks_on, round_came, confirms, hears, receives}
 use Rattle.machine_origins.proofs.Collecting.{tombed_beside, forget_beside}
@@ -208,8 +209,8 @@ module _ (facts : Facts) (t : ℕ) (v : Drawn) (within : AreWithin t v) (g : Ask
   hears_shown now from (HasSame tag table prefix) m = walks_shown from tag table prefix None
   hears_shown now from (Differ tag table prefix pairs) m = walks_shown from tag table prefix (Some pairs)
   hears_shown now from (Tomb number round row) m = tt
-  hears_shown now from (Tombed number round named) m = none_shown _ (tombed_beside any_join words x layouts n now from number round named).ends
-  hears_shown now from (Forget table key hash) m = none_shown _ (forget_beside any_join words x table key hash.0).ends
+  hears_shown now from (Tombed number round named) m = none_shown (tomb_came any_join words layouts n now x from number round named) (tombed_beside any_join words x layouts n now from number round named).ends
+  hears_shown now from (Forget table key hash) m = none_shown (forgets any_join words x table key hash.0) (forget_beside any_join words x table key hash.0).ends
 
   pub receives_shown : (now from : ℕ) (p : Packet AnyRow Layout) → IsPacket any_join words (RowFits v) Short g from n p → Shown (receives any_join words layouts n now x from p)
   receives_shown now from (says m) is = hears_shown now from m is
