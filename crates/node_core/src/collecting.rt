@@ -4,6 +4,7 @@ ghost use Rattle.crdt_core.specs.Outcomes.{OnlyWant, WantOr};
 ghost use Rattle.view_model.specs.Layouts.{reading};
 ghost use Rattle.view_model.specs.View.{newest};
 ghost use Rattle.cluster_machine.specs.Layouts.{layouts};
+ghost use Rattle.blake2_hash.specs.Blake2b.{blake2b};
 ghost use Rattle.cluster_machine.specs.Blocks.{NeedsNone};
 ghost use Rattle.cluster_machine.specs.Collects.{takes_tomb, tomb_came, forgets, finishes};
 ghost use Rattle.cluster_machine.specs.Acts.{acts};
@@ -47,7 +48,7 @@ impl<S: Schema> Node<S> {
         now: u64,
         out: &mut Vec<Envelope<S::Row>>,
     ) -> Result<(), Memory>
-        requires needs_none { NeedsNone S.words row.now }
+        requires needs_none { NeedsNone (blake2b 32) S.words row.now }
         ensures takes { OnOk result (Does S.Row.join S.words self.old self.new out.old.items out.new.items None (λ id x. takes_tomb S.Row.join S.words layouts id now x from collection round row.now)) }
         ensures causes { WantOr result (Overflows S.Row.join S.words self.old (λ id x. takes_tomb S.Row.join S.words layouts id now x from collection round row.now)) }
     {

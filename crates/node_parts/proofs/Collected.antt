@@ -22,7 +22,7 @@ use Rattle.node_parts.specs.Collects.{ends_row, marker_of}
 use Rattle.node_parts.specs.Contents.{IsContents, Became}
 use Rattle.node_parts.specs.Posts.{Posts}
 use Rattle.node_parts.proofs.Posting.{posts_none}
-use Rattle.node_parts.proofs.Tombs.{became_same, found_is}
+use Rattle.node_parts.proofs.TombSteps.{became_same, found_is}
 
 module _ {S R : Type 0} {join : R → R → R} {s : Words R} (laws : Laws join s) (contents : Contents S R) (x : Node R Layout) (is : IsContents join s contents x) (c : Collector) (o : Collection) (out : List (Envelope R)) where
   abbrev row : Option R

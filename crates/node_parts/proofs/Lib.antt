@@ -29,7 +29,7 @@ pub mod KeyedRows
 pub mod Looking
 pub mod Gathered
 pub mod Gathering
-pub mod Tombs
+pub mod TombSteps
 pub mod ClosedAll
 pub mod Collected
 pub mod GoingOn

@@ -136,6 +136,16 @@ module _ {R : Type 0} (join : R → R → R) (s : Words R) where
       let row = row_at join s x.accepted 1 o.key in
       cond ((c.newest == o.newest) && has_bytes join s o.row row) (drops_row join s c.node x o row) (quiet x)
 
+  -- the row is looked at: there is a collection of it, or it is a tombstone that is old enough
+  abbrev pub is_looked_at : ℕ → Open → R → Bool
+  is_looked_at now gc r = is_some (keyed (s.key r) gc) || is_aged now (s.marker r)
+
+  -- all was done that the node does about its rows, and so many collections began
+  pub record Collected (x : Node R Layout) (c : Collector) (new : Open) (old_out new_out : List (Envelope R)) (begun : ℕ) : Type 0 where
+    pub done : IsDone c.node new old_out new_out (about_rows c (object_rows join s x) (with_rows join s layouts x x.gc))
+    pub begun_is : begun ≡ (about_rows c (object_rows join s x) (with_rows join s layouts x x.gc)).begun
+    pub spelled : list_all (is_spelled s) (looked_at join s layouts c.now x) ≡ true
+
   module _ {S : Type 0} where
     -- it was made of the contents, its messages were sent, and this is the delete marker of the row that was dropped
     abbrev pub Ends : Collector → Collection → Contents S R → Contents S R → List (Envelope R) → List (Envelope R) → Option (ℕ × ℕ) → Type 0
@@ -150,20 +160,10 @@ module _ {R : Type 0} (join : R → R → R) (s : Words R) where
     abbrev pub gone_from : Contents S R → List Collection → List ℕ
     gone_from c cs = map number_of (filter (λ o. not (is_some (find_row s 1 o.key c.table))) cs)
 
-    -- the row is looked at: there is a collection of it, or it is a tombstone that is old enough
-    abbrev pub is_looked_at : ℕ → Open → R → Bool
-    is_looked_at now gc r = is_some (keyed (s.key r) gc) || is_aged now (s.marker r)
-
     -- these are the keys of the rows of table 1 that are looked at, in order
     pub record Looks (now : ℕ) (c : Contents S R) (gc : Open) (keys : BTreeSet Key) : Type 0 where
       pub each : (key : List ℕ) → has_key key keys.keys ≡ (is_some (keyed key gc) || is_aged now (marker_of s (find_row s 1 key c.table)))
       pub ordered : IsOrdered vec_cmp keys
-
-    -- all was done that the node does about its rows, and so many collections began
-    pub record Collected (x : Node R Layout) (c : Collector) (new : Open) (old_out new_out : List (Envelope R)) (begun : ℕ) : Type 0 where
-      pub done : IsDone c.node new old_out new_out (about_rows c (object_rows join s x) (with_rows join s x x.gc))
-      pub begun_is : begun ≡ (about_rows c (object_rows join s x) (with_rows join s x x.gc)).begun
-      pub spelled : list_all (is_spelled s) (looked_at join s layouts c.now x) ≡ true
 
     abbrev pub Collects : Collector → Contents S R → Open → Open → List (Envelope R) → List (Envelope R) → ℕ → Type 0
     Collects c contents old new old_out new_out begun = (x : Node R Layout) → IsContents join s contents x → old ≡ x.gc → Collected x c new old_out new_out begun
@@ -171,4 +171,4 @@ module _ {R : Type 0} (join : R → R → R) (s : Words R) where
     -- some row that is looked at can't be written, or a collection's number would be 2 ^ 64
     abbrev pub CannotCollect : Collector → Contents S R → Open → Type 0
     CannotCollect c contents old = (x : Node R Layout) → IsContents join s contents x → old ≡ x.gc →
-        list_all (is_spelled s) (looked_at join s layouts c.now x) ≡ true → (about_rows c (object_rows join s x) (with_rows join s x x.gc)).gc.begun < 2 ^ 64 → ⊥
+        list_all (is_spelled s) (looked_at join s layouts c.now x) ≡ true → (about_rows c (object_rows join s x) (with_rows join s layouts x x.gc)).gc.begun < 2 ^ 64 → ⊥

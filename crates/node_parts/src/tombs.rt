@@ -21,7 +21,7 @@ impl<S: Schema> Contents<S> {
     /// Merges the row with these bytes in, where some set of the view gives the node its partition. Bytes of no row are
     /// passed over.
     pub fn merge(&mut self, view: &View, node: u8, bytes: &Bytes, now: u64) -> Result<(), Memory>
-        requires needs_none { NeedsNone S.words bytes.now }
+        requires needs_none { NeedsNone (blake2b 32) S.words bytes.now }
         ensures merges { OnOk result (Merges S.Row.join S.words self.old self.new view.now node now bytes.now) }
         ensures causes { WantOr result (CannotMerge S.Row.join S.words self.old view.now node now bytes.now) }
     {

@@ -1,6 +1,6 @@
 use Rattle.std.proofs.Common.{◌≡◌, Some, None, refl, ap, sym, ◌∙◌}
 use Rattle.node_parts.specs.Collects.{marker_of}
-use Rattle.node_parts.proofs.Tombs.{dropped_row, none_needed}
+use Rattle.node_parts.proofs.TombSteps.{dropped_row, none_needed}
 use Rattle.node_parts.proofs.contents.Contents.drop_row.Goals as goal
 
 pub returns-in-Some-clause-drops : goal.returns-in-Some-clause-drops

@@ -1,5 +1,5 @@
 use Rattle.std.proofs.Common.{◌≡◌, Some, None, refl, ap, sym, ◌∙◌}
-use Rattle.node_parts.proofs.Tombs.{forgets_it, forgets_none}
+use Rattle.node_parts.proofs.TombSteps.{forgets_it, forgets_none}
 use Rattle.node_parts.proofs.contents.Contents.forget.Goals as goal
 
 pub returns-in_default-clause-forgets : goal.returns-in_default-clause-forgets

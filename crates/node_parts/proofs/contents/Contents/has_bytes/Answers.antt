@@ -2,7 +2,7 @@ use Rattle.std.specs.Prelude.{Some, None}
 use Rattle.std.proofs.Common.{ap, sym, ◌∙◌}
 use Rattle.table_model.specs.Rows.{find_row}
 use Rattle.cluster_machine.specs.Rows.{same_bytes}
-use Rattle.node_parts.proofs.Tombs.{has_is}
+use Rattle.node_parts.proofs.TombSteps.{has_is}
 use Rattle.node_parts.proofs.contents.Contents.has_bytes.Goals as goal
 
 pub returns-in-Some-clause-is : goal.returns-in-Some-clause-is

@@ -1,7 +1,7 @@
 use Rattle.std.proofs.Common.{◌≡◌, Some, None, ap, sym, subst, ◌∙◌}
 use Rattle.std.proofs.lemmas.Result.{on_ok_weaker}
 use Rattle.node_parts.specs.Collects.{MergesRow, CannotMergeRow}
-use Rattle.node_parts.proofs.Tombs.{became_same}
+use Rattle.node_parts.proofs.TombSteps.{became_same}
 use Rattle.node_parts.proofs.contents.Contents.merge.Goals as goal
 
 -- what is read is spelled, and what is spelled is proper

@@ -4,7 +4,7 @@ use Rattle.cluster_machine.specs.Blocks.{IsBeside}
 use Rattle.cluster_machine.specs.Layouts.{is_given, layouts}
 use Rattle.table_schema.specs.Words.{partition_of}
 use Rattle.node_parts.proofs.Faults.{passed_on}
-use Rattle.node_parts.proofs.Tombs.{became_same}
+use Rattle.node_parts.proofs.TombSteps.{became_same}
 use Rattle.node_parts.proofs.contents.Contents.merge_row.Goals as goal
 
 pub accept-requires-clause-beside : goal.accept-requires-clause-beside
