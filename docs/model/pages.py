@@ -23,7 +23,7 @@ import re
 import sys
 
 TOP = os.path.dirname(os.path.dirname(os.path.dirname(os.path.abspath(__file__))))
-PAGES = ['fresh', 'layout', 'transcript', 'blocks', 'items', 'audit', 'map', 'laws', 'unused']
+PAGES = ['fresh', 'layout', 'transcript', 'blocks', 'items', 'audit', 'map', 'laws']
 COUNTED = ['README.md', 'docs/PROMISES.md']
 WORD = re.compile(r"(?<![\w.'\-])[A-Za-z_][\w'\-]*(?:\.[A-Za-z_][\w'\-]*)*")
 HEAD = re.compile(r'^(\s*)((?:(?:abbrev|unfoldable|pub|record|data) )+)([^\s:({]+)')

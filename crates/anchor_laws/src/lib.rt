@@ -1,7 +1,7 @@
 //! Every row that was kept lies at two nodes, with the block that it needs. No body does more than name laws: each is
 //! called for its contract.
 //!
-//! `kept_rows_have_their_blocks` says it of any rows. `kept_references_are_anchored` says it of the object store's: a live
+//! `kept_rows_have_their_blocks` says it of any rows, or that the row was collected. `kept_references_are_anchored` says it of the object store's: a live
 //! reference that was kept lies, live and with its block, at two nodes, or its version is gone (`IsGone` of
 //! `object_origins`): a store phase began to store a newer version of the same bucket id and key complete, or the version
 //! itself aborted. `undeleted_references_are_anchored` says it where each identifier stands for one version of one object.
@@ -35,7 +35,7 @@ ghost use Rattle.cluster_machine.specs.Run.{Move, IsLayout, IsRun, run};
 ghost use Rattle.cluster_machine.specs.Hashes.{RunHashes, NoClash};
 ghost use Rattle.machine_origins.specs.Origins.{stored_by, stored_in};
 ghost use Rattle.machine_laws.specs.Toy.{toys, one_two_three, same_roles};
-ghost use Rattle.machine_reads.specs.Holders.{AreTwo};
+ghost use Rattle.machine_reads.specs.Holders.{AreTwo, WasCollected};
 ghost use Rattle.cluster_machine.specs.Blocks.{StepBringsBlocks};
 ghost use Rattle.object_origins.specs.Gone.{WasStored, IsOverwritten, IsGone, AreDrawn, deletes_nothing};
 ghost use Rattle.anchor_laws.specs.Anchored.{HoldsWithBlock, Anchors};
@@ -43,19 +43,20 @@ ghost use Rattle.anchor_laws.specs.OneReference.{references, either, digest, liv
 
 use block_laws::every_node_has_its_blocks;
 use crdt_rows::AnyRow;
-use machine_origins::every_node_has_stored_rows;
+use machine_origins::{collected_rows_are_stored_objects, every_node_has_stored_rows};
 use machine_reads::every_kept_row_is_held;
 use object_origins::{gone_versions_were_overwritten, rows_show_what_was_stored};
 
 /// At the end of every run of the cluster's machine whose store phases have beside each row the block that it needs, two
 /// nodes have, at the table and key of each row that a store phase kept, a row that is at least it, and the block that
-/// that row needs. This and the two laws below hold where no two strings that the run hashes for walks have one digest.
+/// that row needs, or what was collected there is at least it. This and the two laws below hold where no two strings that
+/// the run hashes for walks have one digest.
 pub fn kept_rows_have_their_blocks<R, L, A, C>()
     ensures { (digest : List ℕ → List ℕ) (join : R → R → R) (s : Words R) (k : Layouts L) (trio : L) (trio_roles : List Role → List Role) (partitions : ℕ) (moves : List (Move R L A C)) →
         JoinLaws join → Laws join s → 1 ≤ partitions → IsLayout k partitions trio → k.reading.version trio ≡ 1 →
         IsRun join s k trio trio_roles partitions empty moves → NoClash (RunHashes s join k trio trio_roles empty moves) → All (λ m. StepBringsBlocks digest s m.step) moves →
         (row : R) → Contains (run join s k trio trio_roles empty moves).kept row →
-        AreTwo (HoldsWithBlock digest join s (run join s k trio trio_roles empty moves) row) }
+        AreTwo (HoldsWithBlock digest join s (run join s k trio trio_roles empty moves) row) ⊎ WasCollected join s (run join s k trio trio_roles empty moves) row }
 {
     every_kept_row_is_held::<R, L, A, C>();
     every_node_has_its_blocks::<R, L, A, C>();
@@ -76,6 +77,7 @@ pub fn kept_references_are_anchored<L, A, C>()
     every_kept_row_is_held::<AnyRow, L, A, C>();
     every_node_has_its_blocks::<AnyRow, L, A, C>();
     every_node_has_stored_rows::<AnyRow, L, A, C>();
+    collected_rows_are_stored_objects::<AnyRow, L, A, C>();
     rows_show_what_was_stored();
 }
 

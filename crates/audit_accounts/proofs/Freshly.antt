@@ -10,6 +10,9 @@ use Rattle.store_model.specs.Events.{Turn, acts_of, run}
 use Rattle.store_model.specs.Fresh.{NoClash}
 use Rattle.store_model.specs.Moments.{between}
 use Rattle.store_anchors.specs.Promises.{EveryRunKeepsPromises, WalksAreClear}
+use Rattle.text_model.specs.Played.{AreAllowed}
+use Rattle.prompt_laws.specs.Times.{CollectsInTime}
+use Rattle.prompt_laws.proofs.Safely.{TimelyTurnsArePrompt, collects_safely}
 use Rattle.audit_laws.specs.Account.{blunt}
 use Rattle.audit_runs.proofs.Cuts.{same_end}
 use Rattle.audit_runs.proofs.Fit.{turns_fit}
@@ -19,9 +22,11 @@ use Rattle.audit_accounts.specs.Runs.{AreOfSchedule, history_told}
 abbrev pub StaysFresh : Type 0
 StaysFresh = (history : List Record) → Fresh history → Fresh (map blunt history)
 
-pub told_fresh : EveryRunKeepsPromises → StaysFresh → (input : List ℕ) (events : List Numbered) (turns others : List Turn) → AreOfSchedule input events turns others → WalksAreClear (acts_of others) → NoClash (run start turns).buckets → Fresh (history_told turns)
-told_fresh every stays input events turns others of clear apart =
+pub told_fresh : EveryRunKeepsPromises → TimelyTurnsArePrompt → StaysFresh → (input : List ℕ) (events : List Numbered) (turns others : List Turn) → AreOfSchedule input events turns others → AreAllowed others →
+    WalksAreClear (acts_of others) → CollectsInTime (acts_of others) → NoClash (run start turns).buckets → Fresh (history_told turns)
+told_fresh every timely stays input events turns others of allowed clear in_time apart =
     let promises = every (acts_of others) of.played.lawful (turns_fit start others of.played.go_on) in
     let last = promises (acts_of others) (between (acts_of others) [] (sym (append-nil (acts_of others)))) in
+    let safely = collects_safely (acts_of others) (timely others allowed of.played.lawful) in_time in
     let same : run start turns ≡ run start others = same_end start turns others of.differ in
-    stays (run start turns).history (subst (λ (s : State). NoClash s.buckets → Fresh s.history) (sym same) (last.recorded clear) apart)
+    stays (run start turns).history (subst (λ (s : State). NoClash s.buckets → Fresh s.history) (sym same) (last.recorded clear safely) apart)

@@ -57,6 +57,7 @@ module _ (silent : SheetsAreQuiet) (events : List Numbered) where
   line_adds asked history (line.Got m) ok = line_heard events asked history (line.Got m) ok.0
   line_adds asked history (line.Sent m k a b) ok = line_heard events asked history (line.Sent m k a b) ok.0
   line_adds asked history (line.Synced n v) ok = line_heard events asked history (line.Synced n v) ok.0
+  line_adds asked history (line.Dropped n ts id) ok = line_heard events asked history (line.Dropped n ts id) ok.0
   line_adds asked history (line.Done q w version size md5) ok = line_heard events asked history (line.Done q w version size md5) ok.0
   line_adds asked history (line.Listed q keys) ok = line_heard events asked history (line.Listed q keys) ok.0
   line_adds asked history (line.Ended q w) ok = line_heard events asked history (line.Ended q w) ok.0
@@ -108,6 +109,7 @@ event_began (event.SyncAck n) choice o = refl
 event_began (event.Clean n) choice o = refl
 event_began (event.Work n) choice o = refl
 event_began (event.Repair n) choice o = refl
+event_began (event.Collect n) choice o = refl
 
 -- what an event's own line is heard as, by what it asks
 abbrev tells_by : Event → Option Asking → Option (Refusal Cut) → Words → Heard → Option Heard
@@ -161,6 +163,7 @@ outer (event.SyncAck n) choice = tt
 outer (event.Clean n) choice = tt
 outer (event.Work n) choice = tt
 outer (event.Repair n) choice = tt
+outer (event.Collect n) choice = tt
 
 module _ (silent : SheetsAreQuiet) (events : List Numbered) where
   event_adds : (asked : List (ℕ × Kind)) (history : List Record) (e : Numbered) (choice : Decision) (o : Outcome) → CanBeHeard events asked e o →

@@ -44,13 +44,14 @@ use Rattle.store_model.specs.Answers.{Entry, with_entry, entries, lines_of, reco
 use Rattle.store_model.specs.Orders.{buckets_of}
 use Rattle.store_model.specs.Run.{Moving, State, Asked, Draw, Outcome, silent, refusal, plainly, effect, doing, are_buckets, phases, began_with, opened as opens_request, begins, draws_of, takes, follows, follow, goes_on, delivers, then_drains, drains}
 use Rattle.store_laws.proofs.Elements.{there}
+use Rattle.store_laws.proofs.Deeds.{Deed}
 use Rattle.store_laws.proofs.Every.{EveryWorld}
 use Rattle.store_laws.proofs.Going.{flow_of}
 use Rattle.store_laws.proofs.Listed.{new_shown}
 use Rattle.store_laws.proofs.Good.{IsGood}
 use Rattle.store_laws.proofs.Covering.{IsSaid}
 use Rattle.store_laws.proofs.Rows.{FoundIn}
-use Rattle.store_laws.proofs.Sound.{began, IsWishOf, listed, IsShown, ScansFor, IsSound}
+use Rattle.store_laws.proofs.Sound.{began, IsWishOf, listed, IsShown, ScansFor, IsSound, sights}
 use Rattle.store_laws.proofs.Grown.{Rests}
 use Rattle.store_laws.proofs.Ends.{HasScanned, IsEnd}
 use Rattle.store_laws.proofs.Stepping.{step_sound, calm_fine, calm_ends}
@@ -59,7 +60,6 @@ use Rattle.store_laws.proofs.Acts.{delivers_keeps}
 use Rattle.store_laws.proofs.Hashing.{FitIn, in_parts}
 use Rattle.store_model.proofs.Leads.{delivers_lead}
 use Rattle.text_model.specs.Grammar.{is_key}
-use Rattle.audit_accounts.specs.Saying.{IsKeyedLine}
 use Rattle.audit_accounts.proofs.Telling.{AreKeyedLines, both_keyed, step_keyed}
 
 -- ---- the records of requests
@@ -153,7 +153,7 @@ said_whole key (marked v) is h = cc
 said_whole key (inline v meta body) is h = h v refl
 said_whole key (in_blocks v meta first) is h = h v refl
 
-module _ {H : List ℕ → Type 0} (s : State) (sound : IsSound H s) (keyed : AreOfKeys s.history) where
+module _ {H : Deed → Type 0} (s : State) (sound : IsSound H s) (keyed : AreOfKeys s.history) where
   -- a version that was found was drawn by a put or copy of its object
   found_key : (name : Name) (v : Version) → FoundIn s.draws name v → is_key name.key ≡ true
   found_key name v f =
@@ -242,11 +242,11 @@ takes_whole s q a ds (End end) h = end_whole q a.kind end h
 
 -- ---- a phase ended
 
-module _ {H : List ℕ → Type 0} (every : EveryWorld H) where
+module _ {H : Deed → Type 0} (every : EveryWorld H) where
   module _ (s : State) (q : ℕ) (a : Asked) (at : numbered s.asked q ≡ Some a) (sound : IsSound H s) (keyed : AreOfKeys s.history) where
     -- each row that a list has with this window has a whole key
     window_whole : (flow : Flow) (bucket prefix : List ℕ) (rows : List ObjectRow) (others : List AnyRow) (reach : Option (List ℕ)) → a.flow ≡ Some flow → flow.stage ≡ Listing bucket prefix rows →
-        HasScanned H s.asked s.draws s.history s.saw s.world.reads q others reach → AreKeyed (rows ++ shown_rows others)
+        HasScanned H s.asked s.draws s.history (sights s) s.world.reads q others reach → AreKeyed (rows ++ shown_rows others)
     window_whole flow bucket prefix rows others reach flow_is stage_is end r c =
         let w = end.is_scanning.waits in
         let own : Name = record { bucket = bucket; key = prefix } in
@@ -254,13 +254,13 @@ module _ {H : List ℕ → Type 0} (every : EveryWorld H) where
         let one_is : w.one ≡ a = cc in
         let flows : Some w.flow ≡ Some flow = sym w.flow_is ∙ (ap (λ (b : Asked). b.flow) one_is ∙ flow_is) in
         let same : w.flow ≡ flow = cc in
-        let scans : ScansFor H s.draws s.history s.saw q (Listing bucket prefix rows) end.scan = subst (λ (g : Stage). ScansFor H s.draws s.history s.saw q g end.scan) (ap (λ (f : Flow). f.stage) same ∙ stage_is) end.is_scanning.scans in
+        let scans : ScansFor H s.draws s.history (sights s) q (Listing bucket prefix rows) end.scan = subst (λ (g : Stage). ScansFor H s.draws s.history (sights s) q g end.scan) (ap (λ (f : Flow). f.stage) same ∙ stage_is) end.is_scanning.scans in
         elim (Contains-append_cases rows (shown_rows others) r c) [
           | inl old ↦ row_whole s sound keyed q own r (scans.2.shown r old)
           | inr new ↦ row_whole s sound keyed q own r (new_shown every s q sound bucket prefix rows others reach end.scan end.is_there scans.0 scans.1 end.is_scanning.has end.is_scanning.proper r new)
         ]
 
-    stage_whole : (id block : ℕ) (stage : Stage) (end : PhaseEnd AnyRow) (now : ℕ) → a.flow ≡ Some (flow_of id block stage) → IsEnd H s.asked s.draws s.history s.saw s.world.kept s.world.reads q end →
+    stage_whole : (id block : ℕ) (stage : Stage) (end : PhaseEnd AnyRow) (now : ℕ) → a.flow ≡ Some (flow_of id block stage) → IsEnd H s.asked s.draws s.history (sights s) s.world.kept s.world.reads q end →
         StepWhole (flow_goes_on id block stage end now)
     stage_whole id block (Drawing name w) (Answered value) now flow_is end = writes_whole id block name (drawn id value now) w
     stage_whole id block (Uploading name v c stored) Kept now flow_is end = uploads_whole id block name v c stored
@@ -275,20 +275,20 @@ module _ {H : List ℕ → Type 0} (every : EveryWorld H) where
     stage_whole id block _ _ now flow_is end = tt
 
   follows_whole : (s : State) (q : ℕ) (a : Asked) → numbered s.asked q ≡ Some a → IsSound H s → AreOfKeys s.history → (end : PhaseEnd AnyRow) (flow : Option Flow) → a.flow ≡ flow →
-      IsEnd H s.asked s.draws s.history s.saw s.world.kept s.world.reads q end → AreKeyedLines (follows s q a end flow).lines
+      IsEnd H s.asked s.draws s.history (sights s) s.world.kept s.world.reads q end → AreKeyedLines (follows s q a end flow).lines
   follows_whole s q a at sound keyed end None flow_is h = tt
   follows_whole s q a at sound keyed end (Some flow) flow_is h =
       let now : ℕ = clock s.world a.node in
       takes_whole (record s { saw = record { request = q; end = end } ∷ s.saw }) q a (draws_of s q flow.block flow.stage end now) (next flow end now)
       (stage_whole s q a at sound keyed flow.id flow.block flow.stage end now flow_is h)
 
-  follow_whole : (s : State) (q : ℕ) (asked : Option Asked) (end : PhaseEnd AnyRow) → numbered s.asked q ≡ asked → IsSound H s → AreOfKeys s.history → IsEnd H s.asked s.draws s.history s.saw s.world.kept s.world.reads q end →
+  follow_whole : (s : State) (q : ℕ) (asked : Option Asked) (end : PhaseEnd AnyRow) → numbered s.asked q ≡ asked → IsSound H s → AreOfKeys s.history → IsEnd H s.asked s.draws s.history (sights s) s.world.kept s.world.reads q end →
       AreKeyedLines (follow s q asked end).lines
   follow_whole s q None end at sound keyed h = tt
   follow_whole s q (Some a) end at sound keyed h = follows_whole s q a at sound keyed end a.flow refl h
 
   goes_on_whole : (s : State) (ends : List (Ended AnyRow)) → IsSound H s → AreOfKeys s.history →
-      AllByRecursion (λ (e : Ended AnyRow). IsEnd H s.asked s.draws s.history s.saw s.world.kept s.world.reads e.request e.how × Rests s e.request) ends → AreKeyedLines (goes_on s ends).lines
+      AllByRecursion (λ (e : Ended AnyRow). IsEnd H s.asked s.draws s.history (sights s) s.world.kept s.world.reads e.request e.how × Rests s e.request) ends → AreKeyedLines (goes_on s ends).lines
   goes_on_whole s [] sound keyed h = tt
   goes_on_whole s (e ∷ es) sound keyed h = follow_whole s e.request (numbered s.asked e.request) e.how refl sound keyed h.0.0
 

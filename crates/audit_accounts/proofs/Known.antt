@@ -19,7 +19,7 @@ use Rattle.cluster_machine.specs.declared.applied.Applied.{Applied}
 use Rattle.cluster_machine.specs.declared.line.Line.{Line}
 use Rattle.cluster_machine.specs.declared.line.Line.TheVariants.{Synced, Ended as HasEnded}
 use Rattle.cluster_machine.specs.declared.line.EndWord.TheVariants.{Restarted}
-use Rattle.cluster_machine.specs.declared.step.Action.TheVariants.{Ack as RaiseAck, Sync as GoOn, SyncAck as RaiseSyncAck, Clean as CleanUp, Work as WorkOff, Repair as Mend}
+use Rattle.cluster_machine.specs.declared.step.Action.TheVariants.{Ack as RaiseAck, Sync as GoOn, SyncAck as RaiseSyncAck, Clean as CleanUp, Work as WorkOff, Repair as Mend, Collect as Gather}
 use Rattle.cluster_machine.specs.declared.step.Step.{Step}
 use Rattle.cluster_machine.specs.declared.step.Step.TheVariants as step
 use Rattle.cluster_machine.specs.declared.step.Refusal.TheVariants.{VersionTaken, VersionLimit, NotMember, Lost, AlreadyEnded}
@@ -31,7 +31,7 @@ use Rattle.cluster_machine.specs.Receives.{receives}
 use Rattle.cluster_machine.specs.Acts.{Acted, acts}
 use Rattle.cluster_machine.specs.World.{Sent, Mark, Request, numbered, clock, is_member_at, undelivered}
 use Rattle.cluster_machine.specs.Choices.{Decision}
-use Rattle.cluster_machine.specs.Step.{most_versions, given, none_given, nothing, refusal as world_refusal, sent_by, sent_from, sync_line, did, at_message, expires, closing, chosen, applies_at, trio_applies, acting, begun, beginning, effects, changed, applied, shut, only, requests_of}
+use Rattle.cluster_machine.specs.Step.{most_versions, given, none_given, nothing, refusal as world_refusal, sent_by, sent_from, sync_line, dropped_line, did, at_message, expires, closing, chosen, applies_at, trio_applies, acting, begun, beginning, effects, changed, applied, shut, only, requests_of}
 use Rattle.cluster_machine.specs.Trio.{trio, stage_trio}
 use Rattle.cluster_machine.specs.Worlds.{Done as Effect, IsLawful, IsSound, next}
 use Rattle.cluster_machine.proofs.Closing.{length_shut}
@@ -106,6 +106,10 @@ module _ (asked : List (ℕ × Kind)) (xs : List Asked) (w : World) (known : Kno
   synced_fine true n after = tt
   synced_fine false n after = ((tt, tt), tt)
 
+  dropped_fine : (n : ℕ) (o : Option (ℕ × ℕ)) → AreFine asked (dropped_line {A = Applied} n o)
+  dropped_fine n None = tt
+  dropped_fine n (Some version) = ((tt, tt), tt)
+
   cond_fine : (b : Bool) (d e : Effect AnyRow) → StepFine d → StepFine e → StepFine (cond b d e)
   cond_fine true d e h k = h
   cond_fine false d e h k = k
@@ -113,7 +117,9 @@ module _ (asked : List (ℕ × Kind)) (xs : List Asked) (w : World) (known : Kno
   did_fine : (n : ℕ) (d : Did AnyRow Layout) → StepFine (did w n d)
   did_fine n d =
       let sends : List (Sent AnyRow Layout) = sent_by w n d.posts in
-      both_fine asked (sent_from (suc (length w.messages)) sends) (sync_line n (w.nodes n).view d.node.view) (sent_fine (suc (length w.messages)) sends) (synced_fine _ n _)
+      let sent : List (Line Applied) = sent_from (suc (length w.messages)) sends in
+      let last : List (Line Applied) = sync_line n (w.nodes n).view d.node.view in
+      both_fine asked (dropped_line n d.dropped) (sent ++ last) (dropped_fine n d.dropped) (both_fine asked sent last (sent_fine (suc (length w.messages)) sends) (synced_fine _ n _))
 
   message_fine : (f : Sent AnyRow Layout → Effect AnyRow) → ((s : Sent AnyRow Layout) → StepFine (f s)) → (o : Option (Sent AnyRow Layout)) (mark : Option Mark) → StepFine (at_message w f o mark)
   message_fine f each None mark = tt
@@ -192,6 +198,7 @@ module _ (asked : List (ℕ × Kind)) (xs : List Asked) (w : World) (known : Kno
   step_fine (step.Clean n) choice = acting_fine n (has_none layouts (w.nodes n).view) (acts any_join words layouts n (clock w n) (w.nodes n) CleanUp)
   step_fine (step.Work n) choice = acting_fine n (has_none layouts (w.nodes n).view) (acts any_join words layouts n (clock w n) (w.nodes n) WorkOff)
   step_fine (step.Repair n) choice = acting_fine n (not (is_member_at layouts w n)) (acts any_join words layouts n (clock w n) (w.nodes n) Mend)
+  step_fine (step.Collect n) choice = acting_fine n (has_none layouts (w.nodes n).view) (acts any_join words layouts n (clock w n) (w.nodes n) Gather)
   step_fine (step.Open n) choice = cond_fine (is_member_at layouts w n) _ (world_refusal w NotMember) tt tt
   step_fine (step.Phase q phase) choice = beginning_fine q phase (numbered w.requests q)
   step_fine (step.Close q) choice = closing_fine q (numbered w.requests q)
@@ -342,6 +349,7 @@ module _ (stays : StaysSound) (asked : List (ℕ × Kind)) where
   outer_calm (step.Clean n) h = tt
   outer_calm (step.Work n) h = tt
   outer_calm (step.Repair n) h = tt
+  outer_calm (step.Collect n) h = tt
   outer_calm (step.Open n) h = absurd h
   outer_calm (step.Phase q phase) h = absurd h
   outer_calm (step.Close q) h = absurd h

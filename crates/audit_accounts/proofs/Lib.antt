@@ -5,6 +5,7 @@ pub mod Named
 pub mod Known
 pub mod Turns
 pub mod Nodes
+pub mod Marks
 pub mod Worlds
 pub mod Views
 pub mod Windows

@@ -1,6 +1,6 @@
 -- The nodes and layout versions that a node's messages, walks and entries name are numbers of the code.
-use Rattle.std.proofs.Common.{◌≡◌, ◌≤◌, ◌<◌, ◌+◌, ◌^◌, ℕ, zero, suc, min, Bool, true, false, not, ◌==◌, leb, nat_lt, cond, Option, Some, None, List, [], ◌∷◌, ◌++◌, length, map, refl, sym, subst, ◌∙◌, arith}
-use Rattle.std.specs.Prelude.{⊤, slice_get, sum_by}
+use Rattle.std.proofs.Common.{◌≡◌, ◌≤◌, ◌<◌, ◌+◌, ◌^◌, ℕ, zero, suc, min, Bool, true, false, not, ◌==◌, ◌&&◌, leb, nat_lt, cond, if◌then◌else◌, Option, Some, None, List, [], ◌∷◌, ◌++◌, length, map, refl, sym, ap, subst, ◌∙◌, length-append, arith}
+use Rattle.std.specs.Prelude.{⊤, is_some, slice_get, sum_by}
 use Rattle.std.specs.List.{AllByRecursion, filter, find, flat_map, fold}
 use Rattle.std.specs.Option.{unwrap_or}
 use Rattle.std.proofs.lemmas.Bool.{and_parts, eqb-true, eqb-false, leb-true}
@@ -28,23 +28,29 @@ use Rattle.quorum_model.specs.Answers.{first_two_at}
 use Rattle.quorum_model.specs.declared.range.RangeAnswer.{RangeAnswer}
 use Rattle.table_model.specs.Rows.{row_at}
 use Rattle.table_schema.specs.Words.{partition_of, partition_at}
+use Rattle.gc_model.specs.declared.collection.Collection.{Collection}
+use Rattle.gc_model.specs.declared.collection.GcEnd.{GcEnd}
+use Rattle.gc_model.specs.declared.collection.GcEnd.TheVariants.{Wait, Closed, Complete}
+use Rattle.gc_model.specs.Rounds.{is_closed}
+use Rattle.gc_model.specs.Collecting.{Open, numbered as numbered_open, keyed, has_confirmed, missing_of, opened as opened_one, begun_with, in_second, changed, closed, told as told_one, answer_end, answered}
 use Rattle.walk_model.specs.Walking.{is_open}
 use Rattle.walk_model.specs.Noting.{is_noted}
 use Rattle.wire_messages.specs.Size.{stored_length}
 use Rattle.wire_messages.specs.declared.message.Message.{Message}
-use Rattle.wire_messages.specs.declared.message.Message.TheVariants.{Get, Row, Range, Rows, Store, Stored, Behind, NotHere, BlockGet, Block, NoBlock, Walk as AsksValue, Same as HasSame, Differ}
+use Rattle.wire_messages.specs.declared.message.Message.TheVariants.{Get, Row, Range, Rows, Store, Stored, Behind, NotHere, BlockGet, Block, NoBlock, Walk as AsksValue, Same as HasSame, Differ, Tomb, Tombed, Forget}
 use Rattle.wire_messages.specs.declared.message.Tag.{Tag}
 use Rattle.wire_messages.specs.declared.message.Tag.TheVariants.{Call as ForCall, Round as ForRound, Item as ForItem}
 use Rattle.wire_messages.specs.declared.phase.Phase.{Phase}
 use Rattle.wire_messages.specs.declared.phase.Phase.TheVariants.{Read, Range as Scans, Store as Keeps, Block as Fetches}
 use Rattle.cluster_machine.specs.declared.step.Action.{Action}
-use Rattle.cluster_machine.specs.declared.step.Action.TheVariants.{Ack as RaiseAck, Sync as GoOn, SyncAck as RaiseSyncAck, Clean as CleanUp, Work as WorkOff, Repair as Mend}
+use Rattle.cluster_machine.specs.declared.step.Action.TheVariants.{Ack as RaiseAck, Sync as GoOn, SyncAck as RaiseSyncAck, Clean as CleanUp, Work as WorkOff, Repair as Mend, Collect as Gather}
 use Rattle.cluster_machine.specs.declared.step.LocalEnd.TheVariants.{At, Idle as IsIdle}
 use Rattle.cluster_machine.specs.Layouts.{layouts, set_of, set_in, set_at, stored_sets, is_given, is_stored}
 use Rattle.cluster_machine.specs.Node.{Question, Scan, Present, resting, asking, scanning, storing, fetching, Call, Item, Part, Walk, Round, Mending, Node, Packet, says, shows, Post, Did, quiet}
-use Rattle.cluster_machine.specs.Rows.{block_at, has_block, block_of, blocks_after, still, accepts_read, accepts_all, drops, sees}
-use Rattle.cluster_machine.specs.Phases.{with_node, in_order, nodes_of, call_at, to_each, calls_now, asked, looked, stored, stores, begins, value_after, row_came, window_at, rows_came, stored_came, block_came, at_call}
+use Rattle.cluster_machine.specs.Rows.{block_at, has_block, block_of, blocks_after, still, accepts, accepts_read, accepts_all, drops, sees}
+use Rattle.cluster_machine.specs.Phases.{bytes_of, is_spelled, with_node, in_order, nodes_of, call_at, to_each, calls_now, asked, looked, stored, stores, begins, value_after, row_came, window_at, rows_came, stored_came, block_came, at_call}
 use Rattle.cluster_machine.specs.Rounds.{confirmed_for, is_complete, open_nodes, walk_at, is_walk, without_walk, with_walk, has_ended, walks_after, found_same, rows_at, walk_after, asked_after, walk_with, walks_of, asks_at, first_asks, starts, pushes_rows, sends_after, parts_of, synced, goes_on, may_sync, begin_round, other_nodes, filled_parts, open_parts, new_walks, walked_anew, again, repairs, round_walks, mending_walks, at_walk, mending_came, with_mending, with_lasting, late_came, answer_came}
+use Rattle.cluster_machine.specs.Collects.{collection_pause, all_nodes, others, is_aged, Progress, object_rows, has_bytes, has_digest, forgets_row, drops_row, merges, finishes, answered_to, goes_on_with, about, about_all, with_rows, progress}
 use Rattle.cluster_machine.specs.Receives.{answers, where_stored, gives_row, gives_block, takes, compares, walks_on, round_came, confirms, hears, receives}
 use Rattle.cluster_machine.specs.Node as machine
 use Rattle.cluster_machine.specs.World.{packet_size}
@@ -53,6 +59,7 @@ use Rattle.cluster_machine.specs.Step.{told}
 use Rattle.machine_origins.proofs.Lists.{all_filter, all_found}
 use Rattle.machine_limits.proofs.Posts.{filter_fewer}
 use Rattle.machine_limits.proofs.Totals.{total}
+use Rattle.std.proofs.lemmas.List.{length-map}
 use Rattle.std.proofs.lemmas.List.Recursion.{is_sum_by}
 use Rattle.audit_model.specs.Lines.{IsNumber, AreNumbers, AreBelow, answer_numbers}
 
@@ -211,6 +218,10 @@ abbrev RoundNamed : Option Round → Type 0
 RoundNamed None = ⊤
 RoundNamed (Some round) = IsRound round
 
+-- as many collections are open at most as ever began
+abbrev pub FewOpen : Open → Type 0
+FewOpen o = length o.collections ≤ o.begun
+
 -- what a node names by itself, which has so many blocks at most
 pub record NodeNamed (k : ℕ) (x : Machine) : Type 0 where
   pub blocks : length x.blocks ≤ k
@@ -218,6 +229,16 @@ pub record NodeNamed (k : ℕ) (x : Machine) : Type 0 where
   pub round : RoundNamed x.round
   pub mending : WalksNamed x.mending
   pub lasting : WalksNamed x.lasting
+  pub few_open : FewOpen x.gc
+
+-- a delete marker has numbers of the code
+abbrev pub MarkNamed : Option (ℕ × ℕ) → Type 0
+MarkNamed None = ⊤
+MarkNamed (Some version) = IsNumber version.0 × IsNumber version.1
+
+-- so have those that rows of a node have alone
+abbrev pub MarksNamed : Machine → Type 0
+MarksNamed x = (table : ℕ) (key : List ℕ) (r : AnyRow) → row_at any_join words x.accepted table key ≡ Some r → MarkNamed (words.marker r)
 
 abbrev pub PacketNamed : Packet AnyRow Layout → Type 0
 PacketNamed (says m) = ⊤
@@ -230,6 +251,7 @@ PostNamed p = IsNumber p.to × PacketNamed p.packet
 pub record DidNamed (k : ℕ) (d : Did AnyRow Layout) : Type 0 where
   pub node : NodeNamed k d.node
   pub posts : AllByRecursion PostNamed d.posts
+  pub dropped : MarkNamed d.dropped
 
 -- ---- messages
 
@@ -308,18 +330,19 @@ open_named round part h = all_filter IsNumber (λ n. not (is_among n (confirmed_
 -- ---- what a node does
 
 -- a node that names as another does
-same_node : (k : ℕ) (x y : Machine) → NodeNamed k x → y.view ≡ x.view → y.round ≡ x.round → y.mending ≡ x.mending → y.lasting ≡ x.lasting → y.blocks ≡ x.blocks → NodeNamed k y
-same_node k x y h view round mending lasting blocks = record {
+same_node : (k : ℕ) (x y : Machine) → NodeNamed k x → y.view ≡ x.view → y.round ≡ x.round → y.mending ≡ x.mending → y.lasting ≡ x.lasting → y.blocks ≡ x.blocks → FewOpen y.gc → NodeNamed k y
+same_node k x y h view round mending lasting blocks few_open = record {
   blocks = subst (λ (bs : List machine.Block). length bs ≤ k) (sym blocks) h.blocks;
   entries = subst (λ (v : View Layout). EntriesLow v.trackers) (sym view) h.entries;
   round = subst RoundNamed (sym round) h.round;
   mending = subst WalksNamed (sym mending) h.mending;
   lasting = subst WalksNamed (sym lasting) h.lasting;
+  few_open = few_open;
 }
 
 -- with more blocks
 pub node_wider : (k m : ℕ) (x : Machine) → k ≤ m → NodeNamed k x → NodeNamed m x
-node_wider k m x low h = let few = h.blocks in record { blocks = omega arith; entries = h.entries; round = h.round; mending = h.mending; lasting = h.lasting }
+node_wider k m x low h = let few = h.blocks in record { blocks = omega arith; entries = h.entries; round = h.round; mending = h.mending; lasting = h.lasting; few_open = h.few_open }
 
 some_byte : (r : AnyRow) → 1 ≤ length (spelled r)
 some_byte (rows.Object r) = omega arith
@@ -343,7 +366,7 @@ read_named k now x bytes given (Some r) e h =
     let before : Option AnyRow = row_at any_join words x.accepted (words.table r) (words.key r) in
     let after : Option AnyRow = row_at any_join words (r ∷ x.accepted) (words.table r) (words.key r) in
     let more = blocks_more x.blocks (block_of any_join words after) given in
-    record { blocks = omega arith; entries = h.entries; round = h.round; mending = h.mending; lasting = h.lasting }
+    record { blocks = omega arith; entries = h.entries; round = h.round; mending = h.mending; lasting = h.lasting; few_open = h.few_open }
 
 accepted_named : (k now : ℕ) (bs : List (List ℕ × Option (List ℕ))) (x : Machine) → NodeNamed k x → NodeNamed (k + total stored_length bs) (accepts_all any_join words now x bs)
 accepted_named k now [] x h = node_wider k (k + 0) x (omega arith) h
@@ -352,13 +375,28 @@ accepted_named k now (b ∷ bs) x h =
     let m : ℕ = k + stored_length b in
     node_wider (m + total stored_length bs) (k + total stored_length (b ∷ bs)) _ (omega arith) (accepted_named m now bs one (read_named k now x b.0 b.1 (words.read b.0) refl h))
 
+-- a tombstone that comes brings no block
+merged_named : (k id now : ℕ) (x : Machine) (row : List ℕ) (o : Option AnyRow) → words.read row ≡ o → length x.blocks + length row ≤ k → NodeNamed k x → NodeNamed k (merges any_join words layouts id now x o)
+merged_named k id now x row None e room h = h
+merged_named k id now x row (Some r) e room h =
+    let own : NodeNamed (length x.blocks) x = record { blocks = omega arith; entries = h.entries; round = h.round; mending = h.mending; lasting = h.lasting; few_open = h.few_open } in
+    let after : NodeNamed k (accepts any_join words now x r None) = node_wider (length x.blocks + stored_length (row, None)) k (accepts any_join words now x r None) (omega arith) (read_named (length x.blocks) now x row None (Some r) e own) in
+    elim (is_given layouts x.view id (partition_of words r)) as (λ b. NodeNamed k (cond b (accepts any_join words now x r None) x)) [ true ↦ after | false ↦ h ]
+
+-- nodes 1 to 16
+all_named : AreNumbers all_nodes
+all_named = (
+  omega arith,
+  (omega arith, (omega arith, (omega arith, (omega arith, (omega arith, (omega arith, (omega arith, (omega arith, (omega arith, (omega arith, (omega arith, (omega arith, (omega arith, (omega arith, (omega arith, tt))))))))))))))),
+)
+
 sees_named : (k id now : ℕ) (x : Machine) (v : View Layout) → NodeNamed k x → EntriesLow v.trackers → NodeNamed k (sees any_join words layouts id now x v)
 sees_named k id now x v h low =
     let new : Machine = record x { view = v; round = still (oldest reading v) x.round } in
-    let named : NodeNamed k new = record { blocks = h.blocks; entries = low; round = closes (oldest reading v) x.round h.round; mending = h.mending; lasting = h.lasting } in
+    let named : NodeNamed k new = record { blocks = h.blocks; entries = low; round = closes (oldest reading v) x.round h.round; mending = h.mending; lasting = h.lasting; few_open = h.few_open } in
     elim (leb (oldest reading v) (oldest reading x.view)) as (λ b. NodeNamed k (cond b new (drops any_join words layouts id now new))) [
       | true ↦ named
-      | false ↦ same_node k new (drops any_join words layouts id now new) named refl refl refl refl refl
+      | false ↦ same_node k new (drops any_join words layouts id now new) named refl refl refl refl refl h.few_open
     ]
   where
     closes : (old : ℕ) (o : Option Round) → RoundNamed o → RoundNamed (still old o)
@@ -367,11 +405,119 @@ sees_named k id now x v h low =
 
 goes_named : (k id : ℕ) (x : Machine) (round : Round) → IsRound round → NodeNamed k x → NodeNamed k (goes_on any_join words layouts id x round)
 goes_named k id x round r h = elim (is_complete round) as (λ b. NodeNamed k (cond b (synced any_join words layouts id x round) (record x { round = Some round }))) [
-  | true ↦ record { blocks = h.blocks; entries = raised_low Sync id round.target x.view.trackers r.target h.entries; round = tt; mending = h.mending; lasting = r.walks }
-  | false ↦ record { blocks = h.blocks; entries = h.entries; round = r; mending = h.mending; lasting = h.lasting }
+  | true ↦ record { blocks = h.blocks; entries = raised_low Sync id round.target x.view.trackers r.target h.entries; round = tt; mending = h.mending; lasting = r.walks; few_open = h.few_open }
+  | false ↦ record { blocks = h.blocks; entries = h.entries; round = r; mending = h.mending; lasting = h.lasting; few_open = h.few_open }
 ]
 
-module _ (k id : ℕ) (x : Machine) (h : NodeNamed k x) (views : ViewNamed x.view) where
+-- ---- how many collections are open, and what a node begins that is told to collect
+
+others_named_all : (id : ℕ) → AreNumbers (others id)
+others_named_all id = all_filter IsNumber (λ n. not (n == id)) all_nodes all_named
+
+missing_named : (c : Collection) → AreNumbers (missing_of c)
+missing_named c = all_filter IsNumber (λ n. not (has_confirmed n c)) all_nodes all_named
+
+closed_few : (number : ℕ) (o : Open) → FewOpen o → FewOpen (closed number o)
+closed_few number o h = let less = filter_fewer (λ (c : Collection). not (c.number == number)) o.collections in omega (arith, less, h)
+
+changed_few : (f : Collection → Collection) (number : ℕ) (o : Open) → FewOpen o → FewOpen (changed f number o)
+changed_few f number o h = let same = length-map o.collections (λ (c : Collection). if c.number == number then f c else c) in omega (arith, same, h)
+
+answered_few : (number round node newest now : ℕ) (o : Open) → FewOpen o → FewOpen (answered number round node newest now o)
+answered_few number round node newest now o h =
+    elim (is_closed (answer_end number round node newest o)) as (λ b. FewOpen (if b then closed number o else changed (told_one round node newest now) number o)) [
+      | true ↦ closed_few number o h
+      | false ↦ changed_few (told_one round node newest now) number o h
+    ]
+
+each_length : (nodes : List ℕ) (m : Message AnyRow) → length (to_each {L = Layout} nodes m) ≡ length nodes
+each_length [] m = refl
+each_length (n ∷ nodes) m = ap suc (each_length nodes m)
+
+-- of the first two nodes one at least is another than this
+one_other : (id a b : ℕ) (ns : List ℕ) → (a ≡ b → ⊥) → 1 ≤ length (filter (λ n. not (n == id)) (a ∷ b ∷ ns))
+one_other id a b ns apart = by_tests (a == id) (b == id) refl refl
+  where
+    by_tests : (p q : Bool) → (a == id) ≡ p → (b == id) ≡ q → (let rest = filter (λ n. not (n == id)) ns in 1 ≤ length (cond (not p) (a ∷ cond (not q) (b ∷ rest) rest) (cond (not q) (b ∷ rest) rest)))
+    by_tests false q e f = omega arith
+    by_tests true false e f = omega arith
+    by_tests true true e f = absurd (apart (eqb-true a id e ∙ sym (eqb-true b id f)))
+
+others_some : (id : ℕ) → 1 ≤ length (others id)
+others_some id = one_other id 1 2 (3 ∷ 4 ∷ 5 ∷ 6 ∷ 7 ∷ 8 ∷ 9 ∷ 10 ∷ 11 ∷ 12 ∷ 13 ∷ 14 ∷ 15 ∷ 16 ∷ []) (λ e. omega (arith, e))
+
+module _ (id now version before : ℕ) where
+  -- what it has done so far, where so many collections had begun before: it has begun no more than it has sent messages
+  record Gathered (t : Progress AnyRow Layout) : Type 0 where
+    begun : t.begun + before ≡ t.gc.begun
+    sent : t.begun ≤ length t.posts
+    few_open : FewOpen t.gc
+    posts : AllByRecursion PostNamed t.posts
+
+  asks_tomb : (t : Progress AnyRow Layout) (o : Open) (begun : ℕ) (nodes : List ℕ) (number round : ℕ) (row : List ℕ) → AreNumbers nodes → begun + before ≡ o.begun → begun ≤ length nodes + t.begun → FewOpen o → Gathered t →
+      Gathered (record { gc = o; posts = t.posts ++ to_each nodes (Tomb number round row); begun = begun })
+  asks_tomb t o begun nodes number round row named same low few g =
+      let m : Message AnyRow = Tomb number round row in
+      let was = g.sent in
+      let sum : length (t.posts ++ to_each {L = Layout} nodes m) ≡ length t.posts + length (to_each {L = Layout} nodes m) = length-append t.posts (to_each nodes m) in
+      let new = each_length nodes m in
+      record { begun = same; sent = omega (arith, was, sum, new, low); few_open = few; posts = all_append PostNamed t.posts (to_each nodes m) g.posts (each_named nodes m named) }
+
+  begins_gathered : (r : AnyRow) (t : Progress AnyRow Layout) → Gathered t → (b : Bool) → Gathered (cond b (record {
+    gc = begun_with t.gc (words.key r) (bytes_of words r) id version;
+    posts = t.posts ++ to_each (others id) (Tomb (t.gc.begun + 1) 1 (bytes_of words r));
+    begun = t.begun + 1;
+  }) t)
+  begins_gathered r t g true =
+      let some = others_some id in
+      let was = g.begun in
+      let few = g.few_open in
+      let one : Collection = opened_one (t.gc.begun + 1) (words.key r) (bytes_of words r) id version in
+      let sum : length (t.gc.collections ++ one ∷ []) ≡ length t.gc.collections + 1 = length-append t.gc.collections (one ∷ []) in
+      asks_tomb t (begun_with t.gc (words.key r) (bytes_of words r) id version) (t.begun + 1) (others id) (t.gc.begun + 1) 1 (bytes_of words r) (others_named_all id) (omega (arith, was)) (omega (arith, some)) (omega (arith, sum, few)) g
+  begins_gathered r t g false = g
+
+  -- the collection, and the open ones, in the second round
+  abbrev second_of : Collection → Collection
+  second_of c = cond (c.round == 1) (in_second c) c
+
+  abbrev second_in : Collection → Open → Open
+  second_in c o = cond (c.round == 1) (changed in_second c.number o) o
+
+  second_begun : (c : Collection) (o : Open) → o.begun ≡ (second_in c o).begun
+  second_begun c o = elim (c.round == 1) as (λ b. (let p : Open = cond b (changed in_second c.number o) o in o.begun ≡ p.begun)) [ true ↦ refl | false ↦ refl ]
+
+  second_few : (c : Collection) (o : Open) → FewOpen o → FewOpen (second_in c o)
+  second_few c o h = elim (c.round == 1) as (λ b. FewOpen (cond b (changed in_second c.number o) o)) [ true ↦ changed_few in_second c.number o h | false ↦ h ]
+
+  goes_gathered : (c : Collection) (ready : Option ℕ) (t : Progress AnyRow Layout) → Gathered t → Gathered (goes_on_with any_join words layouts now c ready t)
+  goes_gathered c None t g = asks_tomb t t.gc t.begun (missing_of c) c.number 1 c.row (missing_named c) g.begun (omega arith) g.few_open g
+  goes_gathered c (Some ready) t g =
+      elim (nat_lt now (ready + collection_pause)) as (λ b. Gathered (cond b t (record t { gc = second_in c t.gc; posts = t.posts ++ to_each (missing_of (second_of c)) (Tomb c.number 2 c.row) }))) [
+        | true ↦ g
+        | false ↦ asks_tomb t (second_in c t.gc) t.begun (missing_of (second_of c)) c.number 2 c.row (missing_named (second_of c)) (g.begun ∙ second_begun c t.gc) (omega arith) (second_few c t.gc g.few_open) g
+      ]
+
+  about_gathered : (r : AnyRow) (o : Option Collection) (t : Progress AnyRow Layout) → Gathered t → Gathered (about any_join words layouts id now version r o t)
+  about_gathered r None t g = begins_gathered r t g (is_spelled words r && is_aged now (words.marker r))
+  about_gathered r (Some c) t g =
+      elim (has_bytes any_join words c.row (Some r) && (version == c.newest)) as (λ b. Gathered (cond b (goes_on_with any_join words layouts now c c.ready t) (record t { gc = closed c.number t.gc }))) [
+        | true ↦ goes_gathered c c.ready t g
+        | false ↦ record { begun = g.begun; sent = g.sent; few_open = closed_few c.number t.gc g.few_open; posts = g.posts }
+      ]
+
+  all_gathered : (rs : List AnyRow) (t : Progress AnyRow Layout) → Gathered t → Gathered (about_all any_join words layouts id now version rs t)
+  all_gathered [] t g = g
+  all_gathered (r ∷ rs) t g = all_gathered rs (about any_join words layouts id now version r (keyed (words.key r) t.gc) t) (about_gathered r (keyed (words.key r) t.gc) t g)
+
+-- so of all its object rows
+gathered : (id now : ℕ) (x : Machine) → FewOpen x.gc → Gathered id now (newest reading x.view) x.gc.begun (progress any_join words layouts id now x)
+gathered id now x h =
+    let less = filter_fewer (λ (c : Collection). is_some (row_at any_join words x.accepted 1 c.key)) x.gc.collections in
+    all_gathered id now (newest reading x.view) x.gc.begun (object_rows any_join words x) (record { gc = with_rows any_join words layouts x x.gc; posts = []; begun = 0 })
+    (record { begun = omega arith; sent = omega arith; few_open = omega (arith, less, h); posts = tt })
+
+module _ (k id : ℕ) (x : Machine) (h : NodeNamed k x) (views : ViewNamed x.view) (marks : MarksNamed x) where
   -- there is room for the blocks beside what a packet has
   abbrev pub HasPlaceFor : Packet AnyRow Layout → Type 0
   HasPlaceFor p = (b : ℕ) → packet_size words p ≡ Some b → length x.blocks + b ≤ k
@@ -380,7 +526,7 @@ module _ (k id : ℕ) (x : Machine) (h : NodeNamed k x) (views : ViewNamed x.vie
   Named d = DidNamed k d
 
   quiets : (y : Machine) → NodeNamed k y → Named (quiet y)
-  quiets y i = record { node = i; posts = tt }
+  quiets y i = record { node = i; posts = tt; dropped = tt }
 
   rests : Named (quiet x)
   rests = quiets x h
@@ -390,11 +536,11 @@ module _ (k id : ℕ) (x : Machine) (h : NodeNamed k x) (views : ViewNamed x.vie
   either false d e i j = j
 
   answers_named : (y : Machine) (to : ℕ) (m : Message AnyRow) → NodeNamed k y → IsNumber to → Named (answers y to m)
-  answers_named y to m i n = record { node = i; posts = ((n, tt), tt) }
+  answers_named y to m i n = record { node = i; posts = ((n, tt), tt); dropped = tt }
 
   -- a node of which calls alone change
   called : (c : Call AnyRow) → NodeNamed k (calls_now x c)
-  called c = same_node k x (calls_now x c) h refl refl refl refl refl
+  called c = same_node k x (calls_now x c) h refl refl refl refl refl h.few_open
 
   in_call : (phase : ℕ) (act : Call AnyRow → Did AnyRow Layout) (o : Option (Call AnyRow)) → ((c : Call AnyRow) → Named (act c)) → Named (at_call x phase act o)
   in_call phase act None i = rests
@@ -405,15 +551,15 @@ module _ (k id : ℕ) (x : Machine) (h : NodeNamed k x) (views : ViewNamed x.vie
 
   asked_named : (c : Call AnyRow) (q : Question AnyRow) (as' : List (ℕ × Option AnyRow)) (a : ℕ × Option AnyRow) (o : Option (Option AnyRow)) → Named (asked x c q as' a o)
   asked_named c q as' a None = quiets _ (called (record c { present = asking q (as' ++ a ∷ []) }))
-  asked_named c q as' a (Some value) = record { node = called (record c { present = resting }); posts = tt }
+  asked_named c q as' a (Some value) = record { node = called (record c { present = resting }); posts = tt; dropped = tt }
 
   looked_named : (c : Call AnyRow) (q : Scan AnyRow) (as' : List (ℕ × RangeAnswer AnyRow)) (a : ℕ × RangeAnswer AnyRow) (o : Option (Window AnyRow)) → Named (looked x c q as' a o)
   looked_named c q as' a None = quiets _ (called (record c { present = scanning q (as' ++ a ∷ []) }))
-  looked_named c q as' a (Some w) = record { node = called (record c { present = resting }); posts = tt }
+  looked_named c q as' a (Some w) = record { node = called (record c { present = resting }); posts = tt; dropped = tt }
 
   stored_named : (c : Call AnyRow) (rs : List AnyRow) (slots : List StoreSlot) (b : Bool) → Named (stored x c rs slots b)
   stored_named c rs slots false = quiets _ (called (record c { present = storing rs slots }))
-  stored_named c rs slots true = record { node = called (record c { present = resting }); posts = tt }
+  stored_named c rs slots true = record { node = called (record c { present = resting }); posts = tt; dropped = tt }
 
   row_named : (c : Call AnyRow) (from : ℕ) (row : Option AnyRow) (p : Present AnyRow) → Named (row_came any_join x c from row p)
   row_named c from row (asking q as') = asked_named c q as' (from, row) (value_after any_join q as' (from, row))
@@ -437,7 +583,7 @@ module _ (k id : ℕ) (x : Machine) (h : NodeNamed k x) (views : ViewNamed x.vie
   confirmed_named c slot from (fetching hash) = rests
 
   block_named : (c : Call AnyRow) (bytes : List ℕ) (p : Present AnyRow) → Named (block_came x c bytes p)
-  block_named c bytes (fetching hash) = record { node = called (record c { present = resting }); posts = tt }
+  block_named c bytes (fetching hash) = record { node = called (record c { present = resting }); posts = tt; dropped = tt }
   block_named c bytes resting = rests
   block_named c bytes (asking q as') = rests
   block_named c bytes (scanning q as') = rests
@@ -451,7 +597,7 @@ module _ (k id : ℕ) (x : Machine) (h : NodeNamed k x) (views : ViewNamed x.vie
   takes_named now from tag named p bs n room =
       let sum : total stored_length bs ≡ sum_by stored_length bs = is_sum_by (total stored_length) stored_length refl (λ y ys. refl) bs in
       let high : length x.blocks + (64 + sum_by stored_length bs) ≤ k = room (64 + sum_by stored_length bs) refl in
-      let own : NodeNamed (length x.blocks) x = record { blocks = omega arith; entries = h.entries; round = h.round; mending = h.mending; lasting = h.lasting } in
+      let own : NodeNamed (length x.blocks) x = record { blocks = omega arith; entries = h.entries; round = h.round; mending = h.mending; lasting = h.lasting; few_open = h.few_open } in
       let after = node_wider (length x.blocks + total stored_length bs) k (accepts_all any_join words now x bs) (omega (arith, sum, high)) (accepted_named (length x.blocks) now bs x own) in
       either (nat_lt (newest reading x.view) named) _ _ (answers_named x from (Behind tag (newest reading x.view)) h n)
       (either (not (is_given layouts x.view id p)) _ _ (answers_named x from (NotHere tag) h n)
@@ -460,7 +606,7 @@ module _ (k id : ℕ) (x : Machine) (h : NodeNamed k x) (views : ViewNamed x.vie
   compares_named : (from : ℕ) (tag : Tag) (named p table : ℕ) (prefix : List ℕ) (hash : Hash32) → IsNumber from → Named (compares any_join words layouts id x from tag named p table prefix hash)
   compares_named from tag named p table prefix hash n =
       either (nat_lt (newest reading x.view) named) _ _ (answers_named x from (Behind tag (newest reading x.view)) h n)
-      (either (not (is_given layouts x.view id p)) _ _ (answers_named x from (NotHere tag) h n) (record { node = h; posts = ((n, tt), tt) }))
+      (either (not (is_given layouts x.view id p)) _ _ (answers_named x from (NotHere tag) h n) (record { node = h; posts = ((n, tt), tt); dropped = tt }))
 
   round_came_named : (from number p : ℕ) (o : Option Round) → RoundNamed o → Named (round_came any_join words layouts id x from number p o)
   round_came_named from number p None r = rests
@@ -485,12 +631,13 @@ module _ (k id : ℕ) (x : Machine) (h : NodeNamed k x) (views : ViewNamed x.vie
       record {
         node = i (record mending { walks = walks_after later mending.walks }) (walks_after_named later mending.walks there m);
         posts = after_named x mending.number later table (asked_after any_join words x w.state.partition table prefix answer) there;
+        dropped = tt;
       })) d
 
   late_named : (from number p table : ℕ) (prefix : List ℕ) (answer : Option (List (ℕ × Hash32))) → Named (late_came any_join words layouts x from number p table prefix answer)
   late_named from number p table prefix answer =
-      mending_named (with_lasting any_join words layouts x) _ (λ mending m. record { blocks = h.blocks; entries = h.entries; round = h.round; mending = h.mending; lasting = m })
-      (mending_named (with_mending any_join words layouts x) (quiet x) (λ mending m. record { blocks = h.blocks; entries = h.entries; round = h.round; mending = m; lasting = h.lasting }) rests from number p table prefix answer x.mending h.mending)
+      mending_named (with_lasting any_join words layouts x) _ (λ mending m. record { blocks = h.blocks; entries = h.entries; round = h.round; mending = h.mending; lasting = m; few_open = h.few_open })
+      (mending_named (with_mending any_join words layouts x) (quiet x) (λ mending m. record { blocks = h.blocks; entries = h.entries; round = h.round; mending = m; lasting = h.lasting; few_open = h.few_open }) rests from number p table prefix answer x.mending h.mending)
       from number p table prefix answer x.lasting h.lasting
 
   round_walked : (table : ℕ) (prefix : List ℕ) (answer : Option (List (ℕ × Hash32))) (round : Round) (w : Walk) → IsRound round → WalkNamed w → Named (round_walks any_join words layouts id x table prefix answer round w)
@@ -502,9 +649,10 @@ module _ (k id : ℕ) (x : Machine) (h : NodeNamed k x) (views : ViewNamed x.vie
       record {
         node = elim (found_same later) as (λ b. NodeNamed k (cond b (goes_on any_join words layouts id x more) (record x { round = Some now }))) [
           | true ↦ goes_named k id x more (record { target = r.target; parts = r.parts; walks = walks }) h
-          | false ↦ record { blocks = h.blocks; entries = h.entries; round = record { target = r.target; parts = r.parts; walks = walks }; mending = h.mending; lasting = h.lasting }
+          | false ↦ record { blocks = h.blocks; entries = h.entries; round = record { target = r.target; parts = r.parts; walks = walks }; mending = h.mending; lasting = h.lasting; few_open = h.few_open }
         ];
         posts = after_named x round.number later table (asked_after any_join words x w.state.partition table prefix answer) there;
+        dropped = tt;
       }
 
   answer_named : (from number p table : ℕ) (prefix : List ℕ) (answer : Option (List (ℕ × Hash32))) (o : Option Round) → RoundNamed o → Named (answer_came any_join words layouts id x from number p table prefix answer o)
@@ -523,12 +671,37 @@ module _ (k id : ℕ) (x : Machine) (h : NodeNamed k x) (views : ViewNamed x.vie
   confirms_named : (from : ℕ) (tag : Tag) → Named (confirms any_join words layouts id x from tag)
   confirms_named from (ForCall request phase slot) = in_call phase (λ c. stored_came layouts x c slot from c.present) (call_at x.calls request) (λ c. confirmed_named c slot from c.present)
   confirms_named from (ForRound number p) = round_came_named from number p x.round h.round
-  confirms_named from (ForItem number) = quiets _ (same_node k x _ h refl refl refl refl refl)
+  confirms_named from (ForItem number) = quiets _ (same_node k x _ h refl refl refl refl refl h.few_open)
+
+  -- ---- collections
+
+  other_gc : (o : Open) → FewOpen o → NodeNamed k (record x { gc = o })
+  other_gc o few_open = same_node k x (record x { gc = o }) h refl refl refl refl refl few_open
+
+  forgotten_named : (table : ℕ) (key : List ℕ) (test : AnyRow → Bool) (o : Option AnyRow) → ((r : AnyRow) → o ≡ Some r → MarkNamed (words.marker r)) → Named (forgets_row any_join words x table key test o)
+  forgotten_named table key test None m = rests
+  forgotten_named table key test (Some r) m = either (test r) _ (quiet x) (record { node = same_node k x _ h refl refl refl refl refl h.few_open; posts = tt; dropped = m r refl }) rests
+
+  drops_named : (o : Open) (c : Collection) (row : Option AnyRow) → FewOpen o → ((r : AnyRow) → row ≡ Some r → MarkNamed (words.marker r)) → Named (drops_row any_join words id (record x { gc = o }) c row)
+  drops_named o c None few_open m = quiets _ (other_gc o few_open)
+  drops_named o c (Some r) few_open m = record { node = same_node k x _ h refl refl refl refl refl few_open; posts = each_named (others id) _ (others_named_all id); dropped = m r refl }
+
+  finished_named : (o : Option Collection) → Named (finishes any_join words layouts id x o)
+  finished_named None = rests
+  finished_named (Some c) =
+      let row = row_at any_join words x.accepted 1 c.key in
+      let few_open = closed_few c.number x.gc h.few_open in
+      either ((newest reading x.view == c.newest) && has_bytes any_join words c.row row) _ _ (drops_named (closed c.number x.gc) c row few_open (marks 1 c.key)) (quiets _ (other_gc (closed c.number x.gc) few_open))
+
+  tombed_named : (number round : ℕ) (o : Open) (e : GcEnd) → FewOpen o → Named (answered_to any_join words layouts id x number round o e)
+  tombed_named number round o Wait few_open = quiets _ (other_gc o few_open)
+  tombed_named number round o Closed few_open = quiets _ (other_gc o few_open)
+  tombed_named number round o Complete few_open = either (round == 2) _ _ (finished_named (numbered_open number x.gc)) (quiets _ (other_gc o few_open))
 
   hears_named : (now from : ℕ) (m : Message AnyRow) → IsNumber from → HasPlaceFor (says m) → Named (hears any_join words layouts id now x from m)
-  hears_named now from (Get request phase at table key) n room = here from request phase at (gives_row any_join words layouts x from request phase (row_at any_join words x.accepted table key)) n (record { node = h; posts = ((n, tt), tt) })
+  hears_named now from (Get request phase at table key) n room = here from request phase at (gives_row any_join words layouts x from request phase (row_at any_join words x.accepted table key)) n (record { node = h; posts = ((n, tt), tt); dropped = tt })
   hears_named now from (Row request phase row) n room = in_call phase (λ c. row_came any_join x c from row c.present) (call_at x.calls request) (λ c. row_named c from row c.present)
-  hears_named now from (Range request phase at bucket prefix after) n room = here from request phase at _ n (record { node = h; posts = ((n, tt), tt) })
+  hears_named now from (Range request phase at bucket prefix after) n room = here from request phase at _ n (record { node = h; posts = ((n, tt), tt); dropped = tt })
   hears_named now from (Rows request phase rs more) n room = in_call phase (λ c. rows_came any_join words x c from rs more c.present) (call_at x.calls request) (λ c. window_named c from rs more c.present)
   hears_named now from (Store tag named p bs) n room = takes_named now from tag named p bs n room
   hears_named now from (Stored tag) n room = confirms_named from tag
@@ -540,6 +713,11 @@ module _ (k id : ℕ) (x : Machine) (h : NodeNamed k x) (views : ViewNamed x.vie
   hears_named now from (AsksValue tag named p table prefix hash) n room = compares_named from tag named p table prefix hash n
   hears_named now from (HasSame tag table prefix) n room = walks_on_named from tag table prefix None
   hears_named now from (Differ tag table prefix pairs) n room = walks_on_named from tag table prefix (Some pairs)
+  hears_named now from (Tomb number round row) n room =
+      let high : length x.blocks + (64 + length row) ≤ k = room (64 + length row) refl in
+      record { node = merged_named k id now x row (words.read row) refl (omega (arith, high)) h; posts = ((n, tt), tt); dropped = tt }
+  hears_named now from (Tombed number round named) n room = tombed_named number round (answered number round from named now x.gc) (answer_end number round from named x.gc) (answered_few number round from named now x.gc h.few_open)
+  hears_named now from (Forget table key hash) n room = forgotten_named table key (has_digest any_join words hash.0) (row_at any_join words x.accepted table key) (marks table key)
 
   pub receives_named : (now from : ℕ) (p : Packet AnyRow Layout) → IsNumber from → PacketNamed p → HasPlaceFor p → Named (receives any_join words layouts id now x from p)
   receives_named now from (says m) n i room = hears_named now from m n room
@@ -553,8 +731,9 @@ module _ (k id : ℕ) (x : Machine) (h : NodeNamed k x) (views : ViewNamed x.vie
       let parts = parts_named id x (layout_at reading x.view at) (layout_at reading x.view (suc at)) (layout_named x.view (suc at) views) in
       let walks = walks_of_named x (other_nodes any_join words layouts id) (parts_of any_join words layouts id x (layout_at reading x.view at) (layout_at reading x.view (suc at))) (others_named id) parts in
       record {
-        node = goes_named k id (record x { rounds = suc x.rounds; lasting = None }) _ (record { target = low; parts = parts; walks = walks }) (record { blocks = h.blocks; entries = h.entries; round = h.round; mending = h.mending; lasting = tt });
+        node = goes_named k id (record x { rounds = suc x.rounds; lasting = None }) _ (record { target = low; parts = parts; walks = walks }) (record { blocks = h.blocks; entries = h.entries; round = h.round; mending = h.mending; lasting = tt; few_open = h.few_open });
         posts = starts_named x (suc x.rounds) _ walks;
+        dropped = tt;
       }
 
   again_named : (round : Round) → IsRound round → Named (again any_join words layouts id x round)
@@ -564,17 +743,18 @@ module _ (k id : ℕ) (x : Machine) (h : NodeNamed k x) (views : ViewNamed x.vie
       record {
         node = goes_named k id x (walked_anew any_join words layouts x round) (record { target = r.target; parts = r.parts; walks = all_append WalkNamed (new_walks any_join words layouts x round) _ new (all_filter WalkNamed _ round.walks r.walks) }) h;
         posts = starts_named x round.number _ new;
+        dropped = tt;
       }
 
   repairs_named : Named (repairs any_join words layouts id x)
   repairs_named =
       let l : Option Layout = layout_at reading x.view (newest reading x.view) in
       let walks = walks_of_named x (other_nodes any_join words layouts id) (parts_of any_join words layouts id x l l) (others_named id) (parts_named id x l l (layout_named x.view (newest reading x.view) views)) in
-      record { node = record { blocks = h.blocks; entries = h.entries; round = h.round; mending = walks; lasting = h.lasting }; posts = starts_named x (suc x.rounds) _ walks }
+      record { node = record { blocks = h.blocks; entries = h.entries; round = h.round; mending = walks; lasting = h.lasting; few_open = h.few_open }; posts = starts_named x (suc x.rounds) _ walks; dropped = tt }
 
-  -- what a node did, and what it answers
+  -- what a node did, and what it answers, if collections can have numbers that began before, and one for each message that it sent
   abbrev ActedNamed : Acted AnyRow Layout → Type 0
-  ActedNamed a = Named a.did × AreBelow (answer_numbers (told a.how))
+  ActedNamed a = Named a.did × (x.gc.begun + length a.did.posts < 2 ^ 64 → AreBelow (answer_numbers (told a.how)))
 
   may_low : (b : Bool) → may_sync any_join words layouts id x.view ≡ b → b ≡ true → suc (read_version reading x.view) ≤ 100
   may_low b e t =
@@ -584,17 +764,17 @@ module _ (k id : ℕ) (x : Machine) (h : NodeNamed k x) (views : ViewNamed x.vie
       omega arith
 
   syncs_named : (o : Option Round) → RoundNamed o → ActedNamed (syncs any_join words layouts id x o)
-  syncs_named (Some round) r = (again_named round r, (let low = r.target in omega arith, tt))
+  syncs_named (Some round) r = (again_named round r, λ few. (let low = r.target in omega arith, tt))
   syncs_named None r = by_test (may_sync any_join words layouts id x.view) refl where
     by_test : (b : Bool) → may_sync any_join words layouts id x.view ≡ b → ActedNamed (cond b (record { did = begin_round any_join words layouts id x; how = At (suc (read_version reading x.view)) }) (record { did = quiet x; how = IsIdle (read_version reading x.view) (ack_least reading x.view) }))
-    by_test true e = let low = may_low true e refl in (begun_round_named low, (omega arith, tt))
-    by_test false e = let a = read_low x.view views in let b = ack_low x.view views in (rests, (omega arith, (omega arith, tt)))
+    by_test true e = let low = may_low true e refl in (begun_round_named low, λ few. (omega arith, tt))
+    by_test false e = let a = read_low x.view views in let b = ack_low x.view views in (rests, λ few. (omega arith, (omega arith, tt)))
 
   raises_named : (which : Which) (i : ℕ) → i ≤ 100 → ActedNamed (raises any_join words layouts id x which i)
   raises_named which i low =
       let now = raised_low which id i x.view.trackers low h.entries in
       let version = or_low (entry which id (raised which id i x.view.trackers)) (oldest reading x.view) (now which id) (first_low x.view.layouts views.layouts) in
-      (quiets _ (record { blocks = h.blocks; entries = now; round = h.round; mending = h.mending; lasting = h.lasting }), (omega arith, tt))
+      (quiets _ (record { blocks = h.blocks; entries = now; round = h.round; mending = h.mending; lasting = h.lasting; few_open = h.few_open }), λ few. (omega arith, tt))
 
   pub acts_named : (now most : ℕ) → most < 2 ^ 64 → k < 2 ^ 64 → length x.items ≤ most → (action : Action) → ActedNamed (acts any_join words layouts id now x action)
   acts_named now most top high items RaiseAck = raises_named Ack (least_start (newest reading x.view) x.calls) (starts_low (newest reading x.view) x.calls views.newest)
@@ -602,29 +782,39 @@ module _ (k id : ℕ) (x : Machine) (h : NodeNamed k x) (views : ViewNamed x.vie
   acts_named now most top high items RaiseSyncAck = raises_named SyncAck (read_version reading x.view) (read_low x.view views)
   acts_named now most top high items CleanUp =
       let low = first_low (cleaned reading x.view).layouts (all_filter LayoutNamed _ x.view.layouts views.layouts) in
-      (quiets _ (sees_named k id now x (cleaned reading x.view) h h.entries), (omega arith, tt))
+      (quiets _ (sees_named k id now x (cleaned reading x.view) h h.entries), λ few. (omega arith, tt))
   acts_named now most top high items WorkOff =
       let few = filter_fewer (λ (b : machine.Block). is_due any_join words now x b.hash) x.blocks in
       let less = filter_fewer (stays any_join words now x) x.blocks in
       let blocks = h.blocks in (
-        record { node = record { blocks = omega (arith, blocks, less); entries = h.entries; round = h.round; mending = h.mending; lasting = h.lasting }; posts = items_named x x.view views x.items },
-        (omega (arith, top, items), (omega (arith, high, blocks, few), tt)),
+        record { node = record { blocks = omega (arith, blocks, less); entries = h.entries; round = h.round; mending = h.mending; lasting = h.lasting; few_open = h.few_open }; posts = items_named x x.view views x.items; dropped = tt },
+        λ room. (omega (arith, top, items), (omega (arith, high, blocks, few), tt)),
       )
-  acts_named now most top high items Mend = (repairs_named, tt)
+  acts_named now most top high items Mend = (repairs_named, λ few. tt)
+  acts_named now most top high items Gather =
+      let t : Progress AnyRow Layout = progress any_join words layouts id now x in
+      let g = gathered id now x h.few_open in
+      let begun = g.begun in
+      let sent = g.sent in
+      let few_open = g.few_open in
+      (record { node = other_gc t.gc g.few_open; posts = g.posts; dropped = tt }, λ few. (omega (arith, sent, few), (omega (arith, few_open, begun, sent, few), tt)))
 
   -- ---- phases
 
   pub begins_named : (kept : List AnyRow) (c : Call AnyRow) (phase : Phase AnyRow) → Named (begins words layouts kept x c phase)
   begins_named kept c (Read table position key) = record {
-    node = same_node k x _ h refl refl refl refl refl;
+    node = same_node k x _ h refl refl refl refl refl h.few_open;
     posts = each_named (set_at layouts x.view (read_version reading x.view) (partition_at position.0)) _ (set_in_named _ (partition_at position.0) (layout_named x.view (read_version reading x.view) views));
+    dropped = tt;
   }
   begins_named kept c (Scans position prefix after) = record {
-    node = same_node k x _ h refl refl refl refl refl;
+    node = same_node k x _ h refl refl refl refl refl h.few_open;
     posts = each_named (set_at layouts x.view (read_version reading x.view) (partition_at position.0)) _ (set_in_named _ (partition_at position.0) (layout_named x.view (read_version reading x.view) views));
+    dropped = tt;
   }
-  begins_named kept c (Keeps rows) = record { node = same_node k x _ h refl refl refl refl refl; posts = stores_named x x.view views c.request (suc c.phases) 0 rows }
+  begins_named kept c (Keeps rows) = record { node = same_node k x _ h refl refl refl refl refl h.few_open; posts = stores_named x x.view views c.request (suc c.phases) 0 rows; dropped = tt }
   begins_named kept c (Fetches hash) = record {
-    node = same_node k x _ h refl refl refl refl refl;
+    node = same_node k x _ h refl refl refl refl refl h.few_open;
     posts = each_named (set_at layouts x.view (read_version reading x.view) (partition_at hash.0)) _ (set_in_named _ (partition_at hash.0) (layout_named x.view (read_version reading x.view) views));
+    dropped = tt;
   }

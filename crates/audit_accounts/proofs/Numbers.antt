@@ -22,7 +22,7 @@ use Rattle.cluster_machine.specs.Worlds.{Done as Effect, newest_at}
 use Rattle.machine_limits.proofs.Moves.{StaysSound}
 use Rattle.object_origins.proofs.Shown.{Facts}
 use Rattle.store_model.specs.declared.event.Event.{Event}
-use Rattle.store_model.specs.declared.event.Event.TheVariants.{Trio, Block, Bucket, Role, Redundancy, Apply, Tick, Skew, Put, Get, Head, Delete, Copy, List as Keys, Deliver, Lose, Drain, Expire, Restart, Gossip, Ack, Sync, SyncAck, Clean, Work, Repair}
+use Rattle.store_model.specs.declared.event.Event.TheVariants.{Trio, Block, Bucket, Role, Redundancy, Apply, Tick, Skew, Put, Get, Head, Delete, Copy, List as Keys, Deliver, Lose, Drain, Expire, Restart, Gossip, Ack, Sync, SyncAck, Clean, Work, Repair, Collect}
 use Rattle.store_model.specs.declared.event.Numbered.{Numbered}
 use Rattle.store_model.specs.Run.{World, State, Outcome, silent, delivers, then_drains, drains}
 use Rattle.store_model.specs.Acts.{IsLawfulAct}
@@ -97,6 +97,7 @@ module _ (facts : Facts) (stays : StaysSound any_join words) where
   turn_told e s (Clean n) choice low r allowed lawful on keyed = event_told facts stays e s low r (Clean n) choice tt allowed lawful on.0 keyed
   turn_told e s (Work n) choice low r allowed lawful on keyed = event_told facts stays e s low r (Work n) choice tt allowed lawful on.0 keyed
   turn_told e s (Repair n) choice low r allowed lawful on keyed = event_told facts stays e s low r (Repair n) choice tt allowed lawful on.0 keyed
+  turn_told e s (Collect n) choice low r allowed lawful on keyed = event_told facts stays e s low r (Collect n) choice tt allowed lawful on.0 keyed
 
 -- ---- other cuts
 
@@ -181,6 +182,7 @@ other_told s (SyncAck n) c d differ = same_told (outcome s (SyncAck n) c)
 other_told s (Clean n) c d differ = same_told (outcome s (Clean n) c)
 other_told s (Work n) c d differ = same_told (outcome s (Work n) c)
 other_told s (Repair n) c d differ = same_told (outcome s (Repair n) c)
+other_told s (Collect n) c d differ = same_told (outcome s (Collect n) c)
 other_told s (Drain n) c d differ = same_told (outcome s (Drain n) c)
 
 -- ---- turns

@@ -38,7 +38,7 @@ use Rattle.flow_model.specs.Next.{next as next_of}
 use Rattle.store_model.specs.Answers.{lines_of_end}
 use Rattle.store_model.specs.Orders.{buckets_of}
 use Rattle.store_model.specs.declared.event.Event.{Event}
-use Rattle.store_model.specs.declared.event.Event.TheVariants.{Trio, Block, Bucket, Role as Stage, Redundancy, Apply, Tick, Skew, Put, Get, Head, Delete, Copy, List as Keys, Deliver, Lose, Drain, Expire, Restart, Gossip, Ack, Sync, SyncAck, Clean, Work, Repair}
+use Rattle.store_model.specs.declared.event.Event.TheVariants.{Trio, Block, Bucket, Role as Stage, Redundancy, Apply, Tick, Skew, Put, Get, Head, Delete, Copy, List as Keys, Deliver, Lose, Drain, Expire, Restart, Gossip, Ack, Sync, SyncAck, Clean, Work, Repair, Collect}
 use Rattle.store_model.specs.Run.{World, State, start, Asked, Draw, Outcome, silent, refusal, plainly, effect, doing, opened, begins, are_buckets, draws_of, takes, follows, follow, goes_on, delivers, then_drains, drains}
 use Rattle.store_model.specs.Acts.{IsLawfulAct}
 use Rattle.store_model.specs.Events.{Turn, object_bytes, act_of, outcome, outcome_of, after}
@@ -57,7 +57,7 @@ abbrev AreOrderly : List (Line Applied) → Type 0
 AreOrderly ls = AllByRecursion IsOrderlyLine ls
 
 step_orderly : (w : World) (st : Step AnyRow) (choice : Decision) → GivenTells IsOrderlyLine choice → AreOrderly (effects any_join words layouts trio stage_trio w st choice).tells
-step_orderly w st choice h = step_tells IsOrderlyLine (λ m. tt) (λ m a b k. tt) (λ n v. tt) (λ q word. tt) w st choice h
+step_orderly w st choice h = step_tells IsOrderlyLine (λ m. tt) (λ m a b k. tt) (λ n v. tt) (λ n ts id. tt) (λ q word. tt) w st choice h
 
 -- ---- requests print no layout
 
@@ -150,6 +150,7 @@ event_orderly s (SyncAck n) c gives = step_orderly s.world (step.SyncAck n) (non
 event_orderly s (Clean n) c gives = step_orderly s.world (step.Clean n) (none_given VersionLimit) tt
 event_orderly s (Work n) c gives = step_orderly s.world (step.Work n) (none_given VersionLimit) tt
 event_orderly s (Repair n) c gives = step_orderly s.world (step.Repair n) (none_given VersionLimit) tt
+event_orderly s (Collect n) c gives = step_orderly s.world (step.Collect n) (none_given VersionLimit) tt
 
 -- what is computed of roles in range is in order
 abbrev pub ComputedAreOrderly : Type 0

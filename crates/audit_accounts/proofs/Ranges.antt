@@ -48,6 +48,7 @@ use Rattle.store_model.specs.Run.{World, Moving, State, Asked, Draw, Outcome, si
 use Rattle.audit_model.specs.Lines.{IsNumber}
 use Rattle.audit_accounts.specs.Saying.{IsKeyedLine}
 use Rattle.audit_accounts.proofs.Flows.{IsNext, next_is, started_is}
+use Rattle.audit_accounts.proofs.Marks.{marks_named}
 use Rattle.audit_accounts.proofs.Worlds.{LineFits, LinesFit, AnswerFits, WorldNamed, IsSmall, step_named, next_named}
 use Rattle.audit_accounts.proofs.Views.{views_named}
 use Rattle.audit_accounts.proofs.Windows.{WindowFits, receives_shown}
@@ -94,16 +95,18 @@ set_numbered most xs q a flow at waits h p x is = elim (numbered_set_cases xs q 
 -- ---- worlds
 
 -- what is known of a world within the limits
-pub small_of : (t k b : ℕ) (v : Drawn) (w : World) → k ≤ 27000000000000 → WorldFits any_join words (RowFits v) weight t k b w → WorldNamed k w → IsSmall w
-small_of t k b v w top fits named =
+pub small_of : Facts → (t k b : ℕ) (v : Drawn) (w : World) → AreWithin t v → k ≤ 27000000000000 → WorldFits any_join words (RowFits v) weight t k b w → WorldNamed k w → IsSmall w
+small_of facts t k b v w within top fits named =
     let requests = fits.requests in
     let early = fits.early in
     record {
       views = views_named k w fits.sound fits.applied named;
+      marks = λ n. marks_named facts t v within (w.nodes n).accepted (fits.rows.nodes n).accepted;
       most = k;
       top = omega arith;
       items = λ n. (let x = fits.nodes n in let a = x.counted in let c = x.listed in omega arith);
       requests = omega arith;
+      begun = λ n. (fits.nodes n).collections;
       calls = λ n. recursion_from_All (λ (c : Call AnyRow). c.request ≤ length w.requests) (w.nodes n).calls (fits.sound.requests n);
     }
 
@@ -142,7 +145,7 @@ module _ (facts : Facts) (stays : StaysSound any_join words) where
     Out o = OutNumbered k more o
 
     now_small : IsSmall s.world
-    now_small = small_of t k b v s.world top fits.world named
+    now_small = small_of facts t k b v s.world fits.within top fits.world named
 
     lists_now : AreNumbered more s.asked
     lists_now = lists_later most more (omega arith) s.asked lists
@@ -218,14 +221,14 @@ module _ (facts : Facts) (stays : StaysSound any_join words) where
   delivers_numbers t k m b most v s i grows top low few high number fits named lists place room keyed =
       let d : Moving = plainly (step.Deliver i) in
       let e : Effect AnyRow = effect s d in
-      let small = small_of t k b v s.world (omega arith) fits.world named in
+      let small = small_of facts t k b v s.world fits.within (omega arith) fits.world named in
       let effects = step_named k m grows (omega arith) s.world named small (step.Deliver i) (none_given VersionLimit) number place tt in
       let after = next_named k m grows (omega arith) s.world named small e effects in
       let moved = moves (rows_bounded facts t v fits.within) stays t k m b s.world d grows top (omega arith) few fits.world fits.marks tt place tt in
       let now : StateFits (suc t) m (b + mail_limit) v (doing s d) = record { within = within_more t v fits.within few; world = moved.world; asked = asked_later t (suc t) v v s.asked (omega arith) (grew_same v) fits.asked; block = fits.block; marks = moved.marks } in
       let ends = delivery_ends t k b v s i fits.within fits.world in
       let o = goes_on_numbers (suc t) m (b + mail_limit) most v (doing s d) top high now after lists e.ends ends room.1 (split_keyed e.tells (goes_on (doing s d) e.ends).lines keyed) in
-      record { answer = effects.answer; out = record { lines = all_append LineFits e.tells (goes_on (doing s d) e.ends).lines (effects.lines (sent_few s.world d room.0)) o.lines; named = o.named; lists = o.lists } }
+      record { answer = effects.answer (sent_few s.world d room.0); out = record { lines = all_append LineFits e.tells (goes_on (doing s d) e.ends).lines (effects.lines (sent_few s.world d room.0)) o.lines; named = o.named; lists = o.lists } }
 
   -- ---- requests that begin
 
@@ -242,11 +245,11 @@ module _ (facts : Facts) (stays : StaysSound any_join words) where
     opened_numbers : HaveRoom any_join words s.world (opened s n o).moves → Begun (opened s n o)
     opened_numbers room =
         let q : ℕ = suc (length s.world.requests) in
-        let small = small_of t k b v s.world top fits.world named in
+        let small = small_of facts t k b v s.world fits.within top fits.world named in
         let opening = step_named k k (omega arith) (omega arith) s.world named small (step.Open n) (none_given VersionLimit) number tt tt in
         let after = next_named k k (omega arith) (omega arith) s.world named small (effect s (plainly (step.Open n))) opening in
         let one = moves (rows_bounded facts t v fits.within) stays t k k b s.world (plainly (step.Open n)) (omega arith) top (omega arith) few fits.world fits.marks tt tt tt in
-        let next_small = small_of (suc t) k (b + mail_limit) v here top one.world after in
+        let next_small = small_of facts (suc t) k (b + mail_limit) v here (within_more t v fits.within few) top one.world after in
         let phase = step_named k k (omega arith) (omega arith) here after next_small (step.Phase q first.1) (none_given VersionLimit) tt tt tt in
         let requests = small.requests in (
           (requests, tt),

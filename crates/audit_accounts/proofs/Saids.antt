@@ -67,6 +67,7 @@ letters (event.SyncAck n) = refl
 letters (event.Clean n) = refl
 letters (event.Work n) = refl
 letters (event.Repair n) = refl
+letters (event.Collect n) = refl
 
 -- what the lines of a layout say is in its ranges
 abbrev pub SheetsAreInRange : Type 0
@@ -78,6 +79,7 @@ module _ (sheets : SheetsAreInRange) where
   line_in_range (line.Got m) fits orderly = fits
   line_in_range (line.Sent m k a b) fits orderly = fits
   line_in_range (line.Synced n v) fits orderly = fits
+  line_in_range (line.Dropped n ts id) fits orderly = fits
   line_in_range (line.Done q w version size md5) fits orderly = fits
   line_in_range (line.Listed q keys) fits orderly = fits
   line_in_range (line.Ended q w) fits orderly = fits

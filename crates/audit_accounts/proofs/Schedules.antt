@@ -67,7 +67,7 @@ module _ (input : List ℕ) (events : List Numbered) (turns others : List Turn) 
   pub allowed_turns : Limits → AreAllowed turns
   allowed_turns limits = allowed_so input events turns of.schedule of.events_are limits
 
-  allowed_others : Limits → AreAllowed others
+  pub allowed_others : Limits → AreAllowed others
   allowed_others limits = allowed_so input events others of.schedule other_events limits
 
   few_turns : Limits → length turns ≤ 100000

@@ -33,6 +33,7 @@ module _ (sheets : SheetsAreSpelled) where
   line_spelled (line.Got m) told orderly = line_says (line.Got m) told
   line_spelled (line.Sent m k a b) told orderly = line_says (line.Sent m k a b) told
   line_spelled (line.Synced n v) told orderly = line_says (line.Synced n v) told
+  line_spelled (line.Dropped n ts id) told orderly = line_says (line.Dropped n ts id) told
   line_spelled (line.Done q w version size md5) told orderly = line_says (line.Done q w version size md5) told
   line_spelled (line.Listed q keys) told orderly = line_says (line.Listed q keys) told
   line_spelled (line.Ended q w) told orderly = line_says (line.Ended q w) told

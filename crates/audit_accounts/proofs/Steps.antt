@@ -28,7 +28,7 @@ use Rattle.limit_laws.proofs.States.{AskedFits, KeyAsked, StoreFits, StateFits, 
 use Rattle.flow_model.specs.declared.order.Order.{Order}
 use Rattle.flow_model.specs.declared.order.Order.TheVariants as order
 use Rattle.store_model.specs.declared.event.Event.{Event}
-use Rattle.store_model.specs.declared.event.Event.TheVariants.{Trio, Block, Bucket, Role, Redundancy, Apply, Tick, Skew, Put, Get, Head, Delete, Copy, List as Keys, Deliver, Lose, Drain, Expire, Restart, Gossip, Ack, Sync, SyncAck, Clean, Work, Repair}
+use Rattle.store_model.specs.declared.event.Event.TheVariants.{Trio, Block, Bucket, Role, Redundancy, Apply, Tick, Skew, Put, Get, Head, Delete, Copy, List as Keys, Deliver, Lose, Drain, Expire, Restart, Gossip, Ack, Sync, SyncAck, Clean, Work, Repair, Collect}
 use Rattle.store_model.specs.Run.{Moving, State, Asked, Outcome, start, silent, plainly, effect, begins, delivers}
 use Rattle.store_model.specs.Acts.{moves as act_moves, plain, IsLawfulAct}
 use Rattle.store_model.specs.Events.{object_bytes, act_of, outcome}
@@ -195,7 +195,7 @@ module _ (facts : Facts) (stays : StaysSound any_join words) where
         let steps = room.steps in
         let top = room.top in
         let one = moves (rows_bounded facts r.t r.drawn r.within) stays r.t r.run.k r.run.k 268435456 s.world mv (omega arith) (omega (arith, top)) (omega arith) (omega (arith, steps)) r.run.world r.run.marks meant place lawful.2 in
-        let small = small_of r.t r.run.k 268435456 r.drawn s.world (omega (arith, top)) r.run.world r.named in
+        let small = small_of facts r.t r.run.k 268435456 r.drawn s.world r.within (omega (arith, top)) r.run.world r.named in
         let effects = step_named r.run.k r.run.k (omega arith) (omega (arith, top)) s.world r.named small mv.step mv.choice names place lawful.2 in
         let after = next_named r.run.k r.run.k (omega arith) (omega (arith, top)) s.world r.named small (effect s mv) effects in
         record {
@@ -208,7 +208,7 @@ module _ (facts : Facts) (stays : StaysSound any_join words) where
             state = record { within = within_more r.t r.drawn r.within (omega (arith, steps)); world = one.world; asked = asked_later r.t (suc r.t) r.drawn r.drawn s.asked (omega arith) (grew_same r.drawn) r.asked; block = r.block; marks = one.marks };
             spends = one.spends;
           });
-          answer = effects.answer;
+          answer = effects.answer (sent_few s.world mv one.room);
           out = record { lines = effects.lines (sent_few s.world mv one.room); named = named_wider r.run.k (omega arith) (plain s mv).state.world after; lists = lists_later most (most + 2000) (omega arith) s.asked r.lists };
         }
 
@@ -298,6 +298,7 @@ module _ (facts : Facts) (stays : StaysSound any_join words) where
     event_does (Clean n) choice single allowed lawful keyed = let node = allowed.1 in moved (plainly (step.Clean n)) tt tt lawful (omega arith)
     event_does (Work n) choice single allowed lawful keyed = let node = allowed.1 in moved (plainly (step.Work n)) tt tt lawful (omega arith)
     event_does (Repair n) choice single allowed lawful keyed = let node = allowed.1 in moved (plainly (step.Repair n)) tt tt lawful (omega arith)
+    event_does (Collect n) choice single allowed lawful keyed = let node = allowed.1 in moved (plainly (step.Collect n)) tt tt lawful (omega arith)
 
     -- such an event
     pub event_told : (event : Event) (choice : Decision) → IsSingle event → IsAllowed event → IsLawfulAct s (act_of event choice) → GoesOn (record { from = s; outcome = outcome s event choice }) → AllByRecursion IsKeyedLine (outcome s event choice).lines → Told (suc e) (outcome s event choice)
@@ -322,7 +323,7 @@ first_here sound =
       run = record { k = 0; world = start_world sound; marks = refl; count = 0; size = 0; one = omega arith; two = omega arith; steps = omega arith; bytes = omega arith };
       asked = tt;
       block = omega arith;
-      named = record { nodes = λ n. record { blocks = omega arith; entries = none_low; round = tt; mending = tt; lasting = tt }; messages = tt; requests = tt; wanted = tt };
+      named = record { nodes = λ n. record { blocks = omega arith; entries = none_low; round = tt; mending = tt; lasting = tt; few_open = omega arith }; messages = tt; requests = tt; wanted = tt };
       lists = λ q a is. absurd (no_numbered q a is);
     }
   where

@@ -12,11 +12,11 @@ use Rattle.object_schema.specs.Schema.{words}
 use Rattle.wire_messages.specs.declared.phase.Phase.{Phase}
 use Rattle.cluster_machine.specs.declared.applied.Applied.{Applied}
 use Rattle.cluster_machine.specs.declared.line.Line.{Line}
-use Rattle.cluster_machine.specs.declared.line.Line.TheVariants.{Layout as Laid, Got, Sent as WasSent, Synced, Ended as HasEnded}
+use Rattle.cluster_machine.specs.declared.line.Line.TheVariants.{Layout as Laid, Got, Sent as WasSent, Synced, Dropped, Ended as HasEnded}
 use Rattle.cluster_machine.specs.declared.line.EndWord.{EndWord}
 use Rattle.cluster_machine.specs.declared.line.EndWord.TheVariants.{Expired, Restarted}
 use Rattle.cluster_machine.specs.declared.line.SentKind.{SentKind}
-use Rattle.cluster_machine.specs.declared.step.Action.TheVariants.{Ack as RaiseAck, Sync as GoOn, SyncAck as RaiseSyncAck, Clean as CleanUp, Work as WorkOff, Repair as Mend}
+use Rattle.cluster_machine.specs.declared.step.Action.TheVariants.{Ack as RaiseAck, Sync as GoOn, SyncAck as RaiseSyncAck, Clean as CleanUp, Work as WorkOff, Repair as Mend, Collect as Gather}
 use Rattle.cluster_machine.specs.declared.step.Step.{Step}
 use Rattle.cluster_machine.specs.declared.step.Step.TheVariants as step
 use Rattle.cluster_machine.specs.declared.step.Refusal.TheVariants.{VersionTaken, VersionLimit, NotMember, Lost, AlreadyEnded}
@@ -27,7 +27,7 @@ use Rattle.cluster_machine.specs.Receives.{receives}
 use Rattle.cluster_machine.specs.Acts.{Acted, acts}
 use Rattle.cluster_machine.specs.World.{Sent, Mark, Request, numbered, clock, is_member_at}
 use Rattle.cluster_machine.specs.Choices.{Decision}
-use Rattle.cluster_machine.specs.Step.{most_versions, given, none_given, nothing, refusal as world_refusal, sent_by, sent_from, sync_line, did, at_message, expires, closing, chosen, applies_at, trio_applies, acting, begun, beginning, effects, requests_of, kind_of}
+use Rattle.cluster_machine.specs.Step.{most_versions, given, none_given, nothing, refusal as world_refusal, sent_by, sent_from, sync_line, dropped_line, did, at_message, expires, closing, chosen, applies_at, trio_applies, acting, begun, beginning, effects, requests_of, kind_of}
 use Rattle.cluster_machine.specs.Trio.{trio, stage_trio}
 use Rattle.cluster_machine.specs.Worlds.{Done as Effect}
 use Rattle.store_model.specs.Run.{World}
@@ -38,7 +38,7 @@ abbrev pub GivenTells : (Line Applied → Type 0) → Decision → Type 0
 GivenTells P (given l shown) = P (Laid shown)
 GivenTells P (none_given r) = ⊤
 
-module _ (P : Line Applied → Type 0) (got : (m : ℕ) → P (Got m)) (sent : (m a b : ℕ) (k : SentKind) → P (WasSent m k a b)) (synced : (n v : ℕ) → P (Synced n v)) (ended : (q : ℕ) (word : EndWord) → P (HasEnded q word)) (w : World) where
+module _ (P : Line Applied → Type 0) (got : (m : ℕ) → P (Got m)) (sent : (m a b : ℕ) (k : SentKind) → P (WasSent m k a b)) (synced : (n v : ℕ) → P (Synced n v)) (dropped : (n ts id : ℕ) → P (Dropped n ts id)) (ended : (q : ℕ) (word : EndWord) → P (HasEnded q word)) (w : World) where
   abbrev Quiet : Effect AnyRow → Type 0
   Quiet e = AllByRecursion P e.tells
 
@@ -50,6 +50,10 @@ module _ (P : Line Applied → Type 0) (got : (m : ℕ) → P (Got m)) (sent : (
   synced_quiet true n after = tt
   synced_quiet false n after = (synced n after, tt)
 
+  dropped_quiet : (n : ℕ) (o : Option (ℕ × ℕ)) → AllByRecursion P (dropped_line n o)
+  dropped_quiet n None = tt
+  dropped_quiet n (Some version) = (dropped n version.0 version.1, tt)
+
   cond_quiet : (b : Bool) (d e : Effect AnyRow) → Quiet d → Quiet e → Quiet (cond b d e)
   cond_quiet true d e h k = h
   cond_quiet false d e h k = k
@@ -57,7 +61,9 @@ module _ (P : Line Applied → Type 0) (got : (m : ℕ) → P (Got m)) (sent : (
   did_quiet : (n : ℕ) (d : Did AnyRow Layout) → Quiet (did w n d)
   did_quiet n d =
       let sends : List (Sent AnyRow Layout) = sent_by w n d.posts in
-      all_append P (sent_from (suc (length w.messages)) sends) (sync_line n (w.nodes n).view d.node.view) (sent_quiet (suc (length w.messages)) sends) (synced_quiet _ n _)
+      let sent : List (Line Applied) = sent_from (suc (length w.messages)) sends in
+      let last : List (Line Applied) = sync_line n (w.nodes n).view d.node.view in
+      all_append P (dropped_line n d.dropped) (sent ++ last) (dropped_quiet n d.dropped) (all_append P sent last (sent_quiet (suc (length w.messages)) sends) (synced_quiet _ n _))
 
   message_quiet : (f : Sent AnyRow Layout → Effect AnyRow) → ((s : Sent AnyRow Layout) → Quiet (f s)) → (o : Option (Sent AnyRow Layout)) (mark : Option Mark) → Quiet (at_message w f o mark)
   message_quiet f each None mark = tt
@@ -121,6 +127,7 @@ module _ (P : Line Applied → Type 0) (got : (m : ℕ) → P (Got m)) (sent : (
   step_tells (step.Clean n) choice h = acting_quiet n (has_none layouts (w.nodes n).view) (acts any_join words layouts n (clock w n) (w.nodes n) CleanUp)
   step_tells (step.Work n) choice h = acting_quiet n (has_none layouts (w.nodes n).view) (acts any_join words layouts n (clock w n) (w.nodes n) WorkOff)
   step_tells (step.Repair n) choice h = acting_quiet n (not (is_member_at layouts w n)) (acts any_join words layouts n (clock w n) (w.nodes n) Mend)
+  step_tells (step.Collect n) choice h = acting_quiet n (has_none layouts (w.nodes n).view) (acts any_join words layouts n (clock w n) (w.nodes n) Gather)
   step_tells (step.Open n) choice h = cond_quiet (is_member_at layouts w n) _ (world_refusal w NotMember) tt tt
   step_tells (step.Phase q phase) choice h = beginning_quiet q phase (numbered w.requests q)
   step_tells (step.Close q) choice h = closing_quiet q (numbered w.requests q)
@@ -139,4 +146,4 @@ given_keyed (none_given r) = tt
 
 -- no step of the world tells of keys
 pub step_keyed : (w : World) (st : Step AnyRow) (choice : Decision) → AreKeyedLines (effects any_join words layouts trio stage_trio w st choice).tells
-step_keyed w st choice = step_tells IsKeyedLine (λ m. tt) (λ m a b k. tt) (λ n v. tt) (λ q word. tt) w st choice (given_keyed choice)
+step_keyed w st choice = step_tells IsKeyedLine (λ m. tt) (λ m a b k. tt) (λ n v. tt) (λ n ts id. tt) (λ q word. tt) w st choice (given_keyed choice)

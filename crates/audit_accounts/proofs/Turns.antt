@@ -93,6 +93,7 @@ module _ (stays : StaysSound) where
   event_known asked s (event.Clean n) choice lawful known = plain_known stays asked s (plainly (step.Clean n)) tt lawful.2 known
   event_known asked s (event.Work n) choice lawful known = plain_known stays asked s (plainly (step.Work n)) tt lawful.2 known
   event_known asked s (event.Repair n) choice lawful known = plain_known stays asked s (plainly (step.Repair n)) tt lawful.2 known
+  event_known asked s (event.Collect n) choice lawful known = plain_known stays asked s (plainly (step.Collect n)) tt lawful.2 known
 
   -- an event that is given another cut tells other lines of its layout alone
   other_fine : (asked : List (ℕ × Kind)) (s : State) (e : Event) (c d : Decision) → KnownIn asked s → AreFine (asked_after asked e (outcome s e d)) (outcome s e d).lines → AreFine (asked_after asked e (outcome s e c)) (outcome s e c).lines
@@ -122,6 +123,7 @@ module _ (stays : StaysSound) where
   other_fine asked s (event.Clean n) c d known h = h
   other_fine asked s (event.Work n) c d known h = h
   other_fine asked s (event.Repair n) c d known h = h
+  other_fine asked s (event.Collect n) c d known h = h
 
   same_asked : (asked : List (ℕ × Kind)) (s : State) (e : Event) (c d : Decision) → asked_after asked e (outcome s e d) ≡ asked_after asked e (outcome s e c)
   same_asked asked s event.Trio c d = refl
@@ -150,6 +152,7 @@ module _ (stays : StaysSound) where
   same_asked asked s (event.Clean n) c d = refl
   same_asked asked s (event.Work n) c d = refl
   same_asked asked s (event.Repair n) c d = refl
+  same_asked asked s (event.Collect n) c d = refl
 
   -- ---- turns
 

@@ -20,7 +20,7 @@ use Rattle.quorum_model.specs.Window.{key_cmp, keyed, is_within, end_of, both_ro
 use Rattle.blake2_hash.specs.declared.digest.Hash32.{Hash32}
 use Rattle.walk_model.specs.Walking.{is_open}
 use Rattle.wire_messages.specs.declared.message.Message.{Message}
-use Rattle.wire_messages.specs.declared.message.Message.TheVariants.{Get, Row, Range, Rows, Store, Stored, Behind, NotHere, BlockGet, Block, NoBlock, Walk as AsksValue, Same as HasSame, Differ}
+use Rattle.wire_messages.specs.declared.message.Message.TheVariants.{Get, Row, Range, Rows, Store, Stored, Behind, NotHere, BlockGet, Block, NoBlock, Walk as AsksValue, Same as HasSame, Differ, Tomb, Tombed, Forget}
 use Rattle.wire_messages.specs.declared.message.Tag.{Tag}
 use Rattle.wire_messages.specs.declared.message.Tag.TheVariants.{Call as ForCall, Round as ForRound, Item as ForItem}
 use Rattle.wire_messages.specs.declared.phase.PhaseEnd.{PhaseEnd}
@@ -29,8 +29,10 @@ use Rattle.cluster_machine.specs.Layouts.{layouts, is_given, is_stored}
 use Rattle.cluster_machine.specs.Node.{Question, Scan, Present, resting, asking, scanning, storing, fetching, Call, Walk, Round, Mending, Packet, says, shows, Ended, Did, quiet}
 use Rattle.cluster_machine.specs.Rows.{block_at}
 use Rattle.cluster_machine.specs.Phases.{call_at, asked, looked, stored, value_after, row_came, window_at, rows_came, stored_came, block_came, at_call}
+use Rattle.cluster_machine.specs.Collects.{forgets, tomb_came}
 use Rattle.cluster_machine.specs.Rounds.{walk_at, round_walks, mending_walks, at_walk, mending_came, with_mending, with_lasting, late_came, answer_came}
 use Rattle.cluster_machine.specs.Receives.{most_rows, gives_block, walks_on, round_came, confirms, hears, receives}
+use Rattle.machine_origins.proofs.Collecting.{tombed_beside, forget_beside}
 use Rattle.machine_origins.proofs.Lists.{all_found}
 use Rattle.machine_origins.proofs.Good.{IsObject, rows_good, range_good, window_has, two_have}
 use Rattle.machine_origins.proofs.Sound.{Asks, IsPresent, IsAnswer, AnswersTo, IsMessage, IsPacket, IsCall, IsNode}
@@ -188,6 +190,9 @@ module _ (facts : Facts) (t : ℕ) (v : Drawn) (within : AreWithin t v) (g : Ask
   confirms_shown from (ForRound number p) = round_shown from number p x.round
   confirms_shown from (ForItem number) = tt
 
+  none_shown : (d : Did AnyRow Layout) → d.ends ≡ [] → Shown d
+  none_shown d e = subst (AllByRecursion IsShown) (sym e) tt
+
   hears_shown : (now from : ℕ) (m : Message AnyRow) → IsMessage any_join words (RowFits v) Short g from n m → Shown (hears any_join words layouts n now x from m)
   hears_shown now from (Get request phase at table key) m = either (is_stored layouts x.view at) _ _ tt tt
   hears_shown now from (Row request phase row) m = in_call request phase (λ c. row_came any_join x c from row c.present) (call_at x.calls request) refl (λ c is. row_shown c is.begun from row c.present)
@@ -203,6 +208,9 @@ module _ (facts : Facts) (t : ℕ) (v : Drawn) (within : AreWithin t v) (g : Ask
   hears_shown now from (AsksValue tag named p table prefix hash) m = either (nat_lt (newest layouts.reading x.view) named) _ _ tt (either (not (is_given layouts x.view n p)) _ _ tt tt)
   hears_shown now from (HasSame tag table prefix) m = walks_shown from tag table prefix None
   hears_shown now from (Differ tag table prefix pairs) m = walks_shown from tag table prefix (Some pairs)
+  hears_shown now from (Tomb number round row) m = tt
+  hears_shown now from (Tombed number round named) m = none_shown (tomb_came any_join words layouts n now x from number round named) (tombed_beside any_join words x layouts n now from number round named).ends
+  hears_shown now from (Forget table key hash) m = none_shown (forgets any_join words x table key hash.0) (forget_beside any_join words x table key hash.0).ends
 
   pub receives_shown : (now from : ℕ) (p : Packet AnyRow Layout) → IsPacket any_join words (RowFits v) Short g from n p → Shown (receives any_join words layouts n now x from p)
   receives_shown now from (says m) is = hears_shown now from m is

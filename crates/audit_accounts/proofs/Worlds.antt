@@ -1,5 +1,5 @@
 -- What each step of the world tells has numbers of the code, and what the world names stays so.
-use Rattle.std.proofs.Common.{◌≡◌, ◌≤◌, ◌<◌, ◌+◌, ◌-◌, ◌^◌, ℕ, suc, Bool, true, false, not, ◌&&◌, ◌==◌, leb, cond, Option, Some, None, List, [], ◌∷◌, length, map, refl, sym, subst, arith}
+use Rattle.std.proofs.Common.{◌≡◌, ◌≤◌, ◌<◌, ◌+◌, ◌-◌, ◌^◌, ℕ, suc, Bool, true, false, not, ◌&&◌, ◌==◌, leb, cond, Option, Some, None, List, [], ◌∷◌, ◌++◌, length, map, refl, sym, ap, subst, arith}
 use Rattle.std.specs.Prelude.{⊤, reverse}
 use Rattle.std.specs.List.{AllByRecursion}
 use Rattle.std.specs.Option.{unwrap_or}
@@ -25,7 +25,7 @@ use Rattle.cluster_machine.specs.declared.line.Line.{Line}
 use Rattle.cluster_machine.specs.declared.line.Line.TheVariants.{Synced, Ended as HasEnded}
 use Rattle.cluster_machine.specs.declared.line.EndWord.TheVariants.{Restarted}
 use Rattle.cluster_machine.specs.declared.step.Action.{Action}
-use Rattle.cluster_machine.specs.declared.step.Action.TheVariants.{Ack as RaiseAck, Sync as GoOn, SyncAck as RaiseSyncAck, Clean as CleanUp, Work as WorkOff, Repair as Mend}
+use Rattle.cluster_machine.specs.declared.step.Action.TheVariants.{Ack as RaiseAck, Sync as GoOn, SyncAck as RaiseSyncAck, Clean as CleanUp, Work as WorkOff, Repair as Mend, Collect as Gather}
 use Rattle.cluster_machine.specs.declared.step.Step.{Step}
 use Rattle.cluster_machine.specs.declared.step.Step.TheVariants as step
 use Rattle.cluster_machine.specs.declared.step.Refusal.{Refusal}
@@ -38,7 +38,7 @@ use Rattle.cluster_machine.specs.Phases.{call_at, begins, opened, closed}
 use Rattle.cluster_machine.specs.Acts.{Acted, acts, appends, restarts}
 use Rattle.cluster_machine.specs.World.{Sent, Mark, Request, numbered, clock, is_member_at}
 use Rattle.cluster_machine.specs.Choices.{Decision, IsComputed, IsRefused, IsNone}
-use Rattle.cluster_machine.specs.Step.{most_versions, given, none_given, nothing, refusal, sent_by, sent_from, sync_line, told, did, received, at_message, expires, closing, restarted, chosen, applies_at, trio_applies, acting, begun, beginning, opening, effects, applied, shut, shut_one, only, requests_of}
+use Rattle.cluster_machine.specs.Step.{most_versions, given, none_given, nothing, refusal, sent_by, sent_from, sync_line, dropped_line, told, did, received, at_message, expires, closing, restarted, chosen, applies_at, trio_applies, acting, begun, beginning, opening, effects, applied, shut, shut_one, only, requests_of}
 use Rattle.cluster_machine.specs.Trio.{trio, stage_trio}
 use Rattle.cluster_machine.specs.Worlds.{Done as Effect, newest_at, IsLawfulStep}
 use Rattle.machine_origins.proofs.Lists.{all_numbered}
@@ -48,7 +48,7 @@ use Rattle.machine_limits.proofs.Lists.{all_set}
 use Rattle.store_model.specs.Run.{World}
 use Rattle.audit_model.specs.Lines.{IsNumber, AreBelow, answer_numbers, told_numbers, IsInRange}
 use Rattle.audit_laws.specs.Told.{saids_of, told_of}
-use Rattle.audit_accounts.proofs.Nodes.{NodeNamed, node_wider, ViewNamed, PacketNamed, PostNamed, DidNamed, IsLow, receives_named, acts_named, begins_named}
+use Rattle.audit_accounts.proofs.Nodes.{NodeNamed, node_wider, ViewNamed, PacketNamed, PostNamed, MarkNamed, MarksNamed, DidNamed, IsLow, receives_named, acts_named, begins_named}
 
 -- what a line says is in its ranges, but for the lines of a layout
 abbrev pub LineFits : Line Applied → Type 0
@@ -77,11 +77,13 @@ pub record WorldNamed (k : ℕ) (w : World) : Type 0 where
 -- what else is known of it
 pub record IsSmall (w : World) : Type 0 where
   pub views : (n : ℕ) → ViewNamed (w.nodes n).view
+  pub marks : (n : ℕ) → MarksNamed (w.nodes n)
   pub most : ℕ
   pub top : most < 2 ^ 64
   pub items : (n : ℕ) → length (w.nodes n).items ≤ most
   pub requests : suc (length w.requests) < 2 ^ 64
   pub calls : (n : ℕ) → AllByRecursion (λ (c : Call AnyRow). c.request ≤ length w.requests) (w.nodes n).calls
+  pub begun : (n : ℕ) → (w.nodes n).gc.begun ≤ length w.messages
 
 -- a step names nodes and messages that are numbers of the code
 abbrev pub StepNamed : Step AnyRow → Type 0
@@ -94,6 +96,7 @@ StepNamed (step.SyncAck n) = IsNumber n
 StepNamed (step.Clean n) = IsNumber n
 StepNamed (step.Work n) = IsNumber n
 StepNamed (step.Repair n) = IsNumber n
+StepNamed (step.Collect n) = IsNumber n
 StepNamed (step.Open n) = IsNumber n
 StepNamed _ = ⊤
 
@@ -103,7 +106,7 @@ pub record EffectNamed (m : ℕ) (w : World) (e : Effect AnyRow) : Type 0 where
   pub sends : AllByRecursion SentNamed e.sends
   pub opens : AllByRecursion RequestNamed e.opens
   pub wanted : IsRedundancy e.redundancy
-  pub answer : AnswerFits e.refused e.words
+  pub answer : length w.messages + length e.sends < 2 ^ 64 → AnswerFits e.refused e.words
   pub lines : length w.messages + length e.sends < 2 ^ 64 → LinesFit e.tells
 
 or_low : (o : Option ℕ) → IsLow o → unwrap_or o 0 < 2 ^ 64
@@ -139,7 +142,7 @@ module _ (k most : ℕ) (grows : k ≤ most) (high : most < 2 ^ 64) (w : World) 
 
   -- nodes change, and nothing is told
   silent : (e : Effect AnyRow) → ((n : ℕ) → NodeNamed most (unwrap_or (e.nodes n) (w.nodes n))) → e.sends ≡ [] → AllByRecursion RequestNamed e.opens → IsRedundancy e.redundancy → AnswerFits e.refused e.words → LinesFit e.tells → Named e
-  silent e nodes sends opens wanted answer lines = record { nodes = nodes; sends = subst (AllByRecursion SentNamed) (sym sends) tt; opens = opens; wanted = wanted; answer = answer; lines = λ few. lines }
+  silent e nodes sends opens wanted answer lines = record { nodes = nodes; sends = subst (AllByRecursion SentNamed) (sym sends) tt; opens = opens; wanted = wanted; answer = λ few. answer; lines = λ few. lines }
 
   refusal_named : (r : Refusal Cut) → AnswerFits (Some r) Empty → Named (refusal w r)
   refusal_named r h = silent (refusal w r) nodes_now refl tt named.wanted h tt
@@ -157,6 +160,10 @@ module _ (k most : ℕ) (grows : k ≤ most) (high : most < 2 ^ 64) (w : World) 
   sent_named n [] h k = tt
   sent_named n (p ∷ posts) h k = ((h, k.0.0, k.0.1), sent_named n posts h k.1)
 
+  sent_length : (n : ℕ) (posts : List (Post AnyRow Layout)) → length (sent_by w n posts) ≡ length posts
+  sent_length n [] = refl
+  sent_length n (p ∷ posts) = ap suc (sent_length n posts)
+
   sent_lines : (m : ℕ) (ss : List (Sent AnyRow Layout)) → m + length ss ≤ 2 ^ 64 → AllByRecursion SentNamed ss → LinesFit (sent_from m ss)
   sent_lines m [] few h = tt
   sent_lines m (s ∷ ss) few h = (((omega (arith, few), (h.0.0, (h.0.1, tt))), tt), sent_lines (suc m) ss (omega (arith, few)) h.1)
@@ -164,6 +171,10 @@ module _ (k most : ℕ) (grows : k ≤ most) (high : most < 2 ^ 64) (w : World) 
   synced_lines : (b : Bool) (n after : ℕ) → IsNumber n → IsNumber after → LinesFit (cond b [] (Synced n after ∷ []))
   synced_lines true n after h k = tt
   synced_lines false n after h k = (((h, (k, tt)), tt), tt)
+
+  dropped_lines : (n : ℕ) (o : Option (ℕ × ℕ)) → IsNumber n → MarkNamed o → LinesFit (dropped_line n o)
+  dropped_lines n None h m = tt
+  dropped_lines n (Some version) h m = (((h, (m.0, (m.1, tt))), tt), tt)
 
   did_named : (n : ℕ) (d : Did AnyRow Layout) → IsNumber n → DidNamed most d → Named (did w n d)
   did_named n d number h =
@@ -174,16 +185,20 @@ module _ (k most : ℕ) (grows : k ≤ most) (high : most < 2 ^ 64) (w : World) 
         sends = sent;
         opens = tt;
         wanted = named.wanted;
-        answer = tt;
-        lines = λ few. all_append LineFits (sent_from (suc (length w.messages)) sends) (sync_line n (w.nodes n).view d.node.view) (sent_lines (suc (length w.messages)) sends (omega (arith, few)) sent)
-            (synced_lines _ n (counts 0 Sync d.node.view.trackers n) number (or_low (entry Sync n d.node.view.trackers) (h.node.entries Sync n)));
+        answer = λ few. tt;
+        lines = λ few.
+            let first : List (Line Applied) = sent_from (suc (length w.messages)) sends in
+            let last : List (Line Applied) = sync_line n (w.nodes n).view d.node.view in
+            all_append LineFits (dropped_line n d.dropped) (first ++ last) (dropped_lines n d.dropped number h.dropped)
+            (all_append LineFits first last (sent_lines (suc (length w.messages)) sends (omega (arith, few)) sent)
+            (synced_lines _ n (counts 0 Sync d.node.view.trackers n) number (or_low (entry Sync n d.node.view.trackers) (h.node.entries Sync n))));
       }
 
   received_named : (m : ℕ) (e : Effect AnyRow) → IsNumber m → Named e → Named (received m e)
   received_named m e number h = record { nodes = h.nodes; sends = h.sends; opens = h.opens; wanted = h.wanted; answer = h.answer; lines = λ few. ((number, tt), h.lines few) }
 
-  worded_named : (e : Effect AnyRow) (answer : Answer) → e.refused ≡ None → AreBelow (answer_numbers answer) → Named e → Named (record e { words = answer })
-  worded_named e answer none fits h = record { nodes = h.nodes; sends = h.sends; opens = h.opens; wanted = h.wanted; answer = subst (λ r. AnswerFits r answer) (sym none) fits; lines = h.lines }
+  worded_named : (e : Effect AnyRow) (answer : Answer) → e.refused ≡ None → (length w.messages + length e.sends < 2 ^ 64 → AreBelow (answer_numbers answer)) → Named e → Named (record e { words = answer })
+  worded_named e answer none fits h = record { nodes = h.nodes; sends = h.sends; opens = h.opens; wanted = h.wanted; answer = λ few. subst (λ r. AnswerFits r answer) (sym none) (fits few); lines = h.lines }
 
   message_named : (f : Sent AnyRow Layout → Effect AnyRow) (o : Option (Sent AnyRow Layout)) (mark : Option Mark) → ((x : Sent AnyRow Layout) → o ≡ Some x → Named (f x)) → Named (at_message w f o mark)
   message_named f None mark h = refusal_named NoSuchMessage tt
@@ -193,13 +208,15 @@ module _ (k most : ℕ) (grows : k ≤ most) (high : most < 2 ^ 64) (w : World) 
   acting_named : (n : ℕ) (b : Bool) (action : Action) → IsNumber n → Named (acting any_join words layouts trio stage_trio w n b (acts any_join words layouts n (clock w n) (w.nodes n) action))
   acting_named n b action number =
       let a : Acted AnyRow Layout = acts any_join words layouts n (clock w n) (w.nodes n) action in
-      let h = acts_named most n (w.nodes n) (nodes_now n) (small.views n) (clock w n) small.most small.top high (small.items n) action in
-      by_test b (refusal w NotMember) _ (λ e. refusal_named NotMember tt) (λ e. worded_named (did w n a.did) (told a.how) refl h.1 (did_named n a.did number h.0))
+      let h = acts_named most n (w.nodes n) (nodes_now n) (small.views n) (small.marks n) (clock w n) small.most small.top high (small.items n) action in
+      let begun = small.begun n in
+      let same : length (sent_by w n a.did.posts) ≡ length a.did.posts = sent_length n a.did.posts in
+      by_test b (refusal w NotMember) _ (λ e. refusal_named NotMember tt) (λ e. worded_named (did w n a.did) (told a.how) refl (λ few. h.1 (omega (arith, begun, same, few))) (did_named n a.did number h.0))
 
   -- ---- layouts
 
   appended_named : (n : ℕ) (l : Layout) → NodeNamed most (appends layouts (w.nodes n) l)
-  appended_named n l = let h = nodes_now n in record { blocks = h.blocks; entries = h.entries; round = h.round; mending = h.mending; lasting = h.lasting }
+  appended_named n l = let h = nodes_now n in record { blocks = h.blocks; entries = h.entries; round = h.round; mending = h.mending; lasting = h.lasting; few_open = h.few_open }
 
   trio_named : Named (trio_applies any_join words layouts trio stage_trio w)
   trio_named =
@@ -232,7 +249,7 @@ module _ (k most : ℕ) (grows : k ≤ most) (high : most < 2 ^ 64) (w : World) 
   -- ---- requests
 
   closed_named : (n q : ℕ) → NodeNamed most (closed q (w.nodes n))
-  closed_named n q = let h = nodes_now n in record { blocks = h.blocks; entries = h.entries; round = h.round; mending = h.mending; lasting = h.lasting }
+  closed_named n q = let h = nodes_now n in record { blocks = h.blocks; entries = h.entries; round = h.round; mending = h.mending; lasting = h.lasting; few_open = h.few_open }
 
   expires_named : (q : ℕ) (o : Option Request) → numbered w.requests q ≡ o → Named (expires {A = Applied} {C = Cut} w q o)
   expires_named q None is = refusal_named NoSuchRequest tt
@@ -261,7 +278,7 @@ module _ (k most : ℕ) (grows : k ≤ most) (high : most < 2 ^ 64) (w : World) 
   restarted_named : (n : ℕ) → Named (restarted {A = Applied} {C = Cut} w n)
   restarted_named n =
       let h = nodes_now n in
-      silent _ (one_named n (restarts (w.nodes n)) (record { blocks = h.blocks; entries = h.entries; round = tt; mending = tt; lasting = tt })) refl tt named.wanted tt
+      silent _ (one_named n (restarts (w.nodes n)) (record { blocks = h.blocks; entries = h.entries; round = tt; mending = tt; lasting = tt; few_open = omega arith })) refl tt named.wanted tt
       (ended_lines (reverse (requests_of (w.nodes n).calls)) (turned_all IsNumber (requests_of (w.nodes n).calls) (calls_small (w.nodes n).calls (small.calls n))))
 
   opening_named : (n : ℕ) → IsNumber n → Named (opening {A = Applied} {C = Cut} any_join words layouts trio stage_trio w n)
@@ -269,12 +286,12 @@ module _ (k most : ℕ) (grows : k ≤ most) (high : most < 2 ^ 64) (w : World) 
       let h = nodes_now n in
       let few = small.requests in
       by_test (is_member_at layouts w n) _ (refusal w NotMember)
-      (λ e. silent _ (one_named n (opened (suc (length w.requests)) (newest reading (w.nodes n).view) (w.nodes n)) (record { blocks = h.blocks; entries = h.entries; round = h.round; mending = h.mending; lasting = h.lasting })) refl (number, tt) named.wanted (few, tt) tt)
+      (λ e. silent _ (one_named n (opened (suc (length w.requests)) (newest reading (w.nodes n).view) (w.nodes n)) (record { blocks = h.blocks; entries = h.entries; round = h.round; mending = h.mending; lasting = h.lasting; few_open = h.few_open })) refl (number, tt) named.wanted (few, tt) tt)
       (λ e. refusal_named NotMember tt)
 
   begun_named : (n : ℕ) (phase : Phase AnyRow) (o : Option (Call AnyRow)) → IsNumber n → Named (begun {A = Applied} {C = Cut} any_join words layouts trio stage_trio w n phase o)
   begun_named n phase None number = nothing_named
-  begun_named n phase (Some c) number = did_named n (begins words layouts w.kept (w.nodes n) c phase) number (begins_named most n (w.nodes n) (nodes_now n) (small.views n) w.kept c phase)
+  begun_named n phase (Some c) number = did_named n (begins words layouts w.kept (w.nodes n) c phase) number (begins_named most n (w.nodes n) (nodes_now n) (small.views n) (small.marks n) w.kept c phase)
 
   beginning_named : (q : ℕ) (phase : Phase AnyRow) (o : Option Request) → numbered w.requests q ≡ o → Named (beginning {A = Applied} {C = Cut} any_join words layouts trio stage_trio w q phase o)
   beginning_named q phase None is = nothing_named
@@ -293,17 +310,18 @@ module _ (k most : ℕ) (grows : k ≤ most) (high : most < 2 ^ 64) (w : World) 
       message_named _ (numbered w.messages m) (numbered w.marks m)
       (λ x e.
       let is = all_numbered SentNamed w.messages m x named.messages e in
-      received_named m _ h (did_named x.to _ is.1 (receives_named most x.to (w.nodes x.to) (nodes_now x.to) (small.views x.to) (clock w x.to) x.from x.packet is.0 is.2 (λ b f. let more = place x e b f in let few = (named.nodes x.to).blocks in omega (arith, more, few)))))
+      received_named m _ h (did_named x.to _ is.1 (receives_named most x.to (w.nodes x.to) (nodes_now x.to) (small.views x.to) (small.marks x.to) (clock w x.to) x.from x.packet is.0 is.2 (λ b f. let more = place x e b f in let few = (named.nodes x.to).blocks in omega (arith, more, few)))))
   step_named (step.Lose m) choice h place lawful = message_named _ (numbered w.messages m) (numbered w.marks m) (λ x e. silent _ nodes_now refl tt named.wanted tt tt)
   step_named (step.Expire q) choice h place lawful = expires_named q (numbered w.requests q) refl
   step_named (step.Restart n) choice h place lawful = restarted_named n
-  step_named (step.Gossip from to) choice h place lawful = did_named from (record (quiet (w.nodes from)) { posts = record { to = to; packet = shows (w.nodes from).view } ∷ [] }) h.0 (record { node = nodes_now from; posts = ((h.1, (nodes_now from).entries), tt) })
+  step_named (step.Gossip from to) choice h place lawful = did_named from (record (quiet (w.nodes from)) { posts = record { to = to; packet = shows (w.nodes from).view } ∷ [] }) h.0 (record { node = nodes_now from; posts = ((h.1, (nodes_now from).entries), tt); dropped = tt })
   step_named (step.Ack n) choice h place lawful = acting_named n (has_none layouts (w.nodes n).view) RaiseAck h
   step_named (step.Sync n) choice h place lawful = acting_named n (has_none layouts (w.nodes n).view) GoOn h
   step_named (step.SyncAck n) choice h place lawful = acting_named n (has_none layouts (w.nodes n).view) RaiseSyncAck h
   step_named (step.Clean n) choice h place lawful = acting_named n (has_none layouts (w.nodes n).view) CleanUp h
   step_named (step.Work n) choice h place lawful = acting_named n (has_none layouts (w.nodes n).view) WorkOff h
   step_named (step.Repair n) choice h place lawful = acting_named n (not (is_member_at layouts w n)) Mend h
+  step_named (step.Collect n) choice h place lawful = acting_named n (has_none layouts (w.nodes n).view) Gather h
   step_named (step.Open n) choice h place lawful = opening_named n h
   step_named (step.Phase q phase) choice h place lawful = beginning_named q phase (numbered w.requests q) refl
   step_named (step.Close q) choice h place lawful = closing_named q (numbered w.requests q)

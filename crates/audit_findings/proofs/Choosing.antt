@@ -20,7 +20,7 @@ use Rattle.cluster_machine.specs.Choices.{Decision, IsBest, IsComputed, IsNone}
 use Rattle.cluster_machine.specs.Step.{given, none_given}
 use Rattle.cluster_machine.specs.Worlds.{newest_at, comes_to_layout}
 use Rattle.store_model.specs.declared.event.Event.{Event}
-use Rattle.store_model.specs.declared.event.Event.TheVariants.{Trio, Block, Bucket, Role as Stage, Redundancy as Spread, Apply, Tick, Skew, Put, Get, Head, Delete, Copy, List as Keys, Deliver, Lose, Drain, Expire, Restart, Gossip, Ack, Sync, SyncAck, Clean, Work, Repair}
+use Rattle.store_model.specs.declared.event.Event.TheVariants.{Trio, Block, Bucket, Role as Stage, Redundancy as Spread, Apply, Tick, Skew, Put, Get, Head, Delete, Copy, List as Keys, Deliver, Lose, Drain, Expire, Restart, Gossip, Ack, Sync, SyncAck, Clean, Work, Repair, Collect}
 use Rattle.store_model.specs.declared.event.Numbered.{Numbered}
 use Rattle.store_model.specs.Run.{State, start}
 use Rattle.store_model.specs.Acts.{IsLawfulAct}
@@ -165,6 +165,7 @@ module _ (computed : PrintsAreComputed) (s : State) (fine : IsFine s) where
   printed_choice line (Clean m) p so lawful ordered c h = record { choice = none_given VersionLimit; beside = none_given VersionLimit; given_so = as_printed so tt; differ = refl; lawful = h }
   printed_choice line (Work m) p so lawful ordered c h = record { choice = none_given VersionLimit; beside = none_given VersionLimit; given_so = as_printed so tt; differ = refl; lawful = h }
   printed_choice line (Repair m) p so lawful ordered c h = record { choice = none_given VersionLimit; beside = none_given VersionLimit; given_so = as_printed so tt; differ = refl; lawful = h }
+  printed_choice line (Collect m) p so lawful ordered c h = record { choice = none_given VersionLimit; beside = none_given VersionLimit; given_so = as_printed so tt; differ = refl; lawful = h }
 
   chosen_for : (e : Numbered) (o : Option Print) → IsAllowed e.event → IfSome o (λ p. IsLawfulPrint p × IsOrderedPrint p) → ChosenFor s e o
   chosen_for e None allowed known =

@@ -1,5 +1,5 @@
 -- The text of turns is whole lines.
-use Rattle.std.proofs.Common.{◌≡◌, ℕ, ◌+◌, ◌-◌, true, false, ◌==◌, if◌then◌else◌, nat_eq, List, [], ◌∷◌, ◌++◌, length, map, refl, sym, ap, ◌∙◌, append_assoc}
+use Rattle.std.proofs.Common.{◌≡◌, ℕ, ◌+◌, ◌-◌, true, false, ◌==◌, if◌then◌else◌, nat_eq, Some, List, [], ◌∷◌, ◌++◌, length, map, refl, sym, ap, ◌∙◌, append_assoc}
 use Rattle.std.specs.Prelude.{codes, decimal, flat_map}
 use Rattle.std.specs.Cmp.Lexicographic.{pointwise}
 use Rattle.std.specs.List.{range_with_len}
@@ -120,6 +120,7 @@ told_whole (line.Layout shown) = layout_whole shown.roles.list shown.certified
 told_whole (line.Got m) = line_whole (codes "got" ++ number m)
 told_whole (line.Sent m k a b) = line_whole (codes "sent" ++ number m ++ word (kind_text k) ++ number a ++ number b)
 told_whole (line.Synced n v) = line_whole (codes "synced" ++ number n ++ number v)
+told_whole (line.Dropped n ts id) = line_whole (codes "dropped" ++ number n ++ word (version_text (Some (ts, id))))
 told_whole (line.Done q w version size md5) = line_whole (codes "done" ++ number q ++ word (done_text w) ++ word (version_text version) ++ size_text size ++ digest_text md5)
 told_whole (line.Listed q keys) =
     both_whole (codes "done" ++ number q ++ word (codes "list") ++ number (length keys) ++ 10 ∷ []) (flat_map key_line keys)

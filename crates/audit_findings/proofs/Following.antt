@@ -8,7 +8,7 @@ use Rattle.object_schema.specs.Schema.{words}
 use Rattle.cluster_machine.specs.World.{sent_bytes}
 use Rattle.cluster_machine.specs.Choices.{Decision}
 use Rattle.store_model.specs.declared.event.Event.{Event}
-use Rattle.store_model.specs.declared.event.Event.TheVariants.{Trio, Block, Bucket, Role, Redundancy, Apply, Tick, Skew, Put, Get, Head, Delete, Copy, List as Keys, Deliver, Lose, Drain, Expire, Restart, Gossip, Ack, Sync, SyncAck, Clean, Work, Repair}
+use Rattle.store_model.specs.declared.event.Event.TheVariants.{Trio, Block, Bucket, Role, Redundancy, Apply, Tick, Skew, Put, Get, Head, Delete, Copy, List as Keys, Deliver, Lose, Drain, Expire, Restart, Gossip, Ack, Sync, SyncAck, Clean, Work, Repair, Collect}
 use Rattle.store_model.specs.declared.event.Numbered.{Numbered}
 use Rattle.store_model.specs.Run.{State, start}
 use Rattle.store_model.specs.Acts.{IsLawfulAct}
@@ -132,6 +132,7 @@ passes_alike s (SyncAck n) c d p = p
 passes_alike s (Clean n) c d p = p
 passes_alike s (Work n) c d p = p
 passes_alike s (Repair n) c d p = p
+passes_alike s (Collect n) c d p = p
 
 -- ---- the whole run
 

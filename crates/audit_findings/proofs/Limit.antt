@@ -13,7 +13,7 @@ use Rattle.cluster_machine.specs.Trio.{trio, stage_trio}
 use Rattle.cluster_machine.specs.World.{Sent, is_member_at, sent_bytes}
 use Rattle.cluster_machine.specs.Worlds.{Done as Effect, newest_at, does}
 use Rattle.store_model.specs.declared.event.Event.{Event}
-use Rattle.store_model.specs.declared.event.Event.TheVariants.{Trio, Block, Bucket, Role, Redundancy, Apply, Tick, Skew, Put, Get, Head, Delete, Copy, List as Keys, Deliver, Lose, Drain, Expire, Restart, Gossip, Ack, Sync, SyncAck, Clean, Work, Repair}
+use Rattle.store_model.specs.declared.event.Event.TheVariants.{Trio, Block, Bucket, Role, Redundancy, Apply, Tick, Skew, Put, Get, Head, Delete, Copy, List as Keys, Deliver, Lose, Drain, Expire, Restart, Gossip, Ack, Sync, SyncAck, Clean, Work, Repair, Collect}
 use Rattle.store_model.specs.Run.{World, Moving, State}
 use Rattle.store_model.specs.Events.{outcome}
 use Rattle.text_model.specs.Played.{sent_limit, Step, steps_of, HasSent, GoesOn}
@@ -107,3 +107,4 @@ not_both_ways s (SyncAck n) c d p h = not_on (steps_of s (SyncAck n) d) p h
 not_both_ways s (Clean n) c d p h = not_on (steps_of s (Clean n) d) p h
 not_both_ways s (Work n) c d p h = not_on (steps_of s (Work n) d) p h
 not_both_ways s (Repair n) c d p h = not_on (steps_of s (Repair n) d) p h
+not_both_ways s (Collect n) c d p h = not_on (steps_of s (Collect n) d) p h

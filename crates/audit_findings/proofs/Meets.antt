@@ -15,7 +15,7 @@ use Rattle.cluster_machine.specs.Trio.{trio, stage_trio}
 use Rattle.cluster_machine.specs.World.{is_member_at}
 use Rattle.cluster_machine.specs.Worlds.{Done as Effect, newest_at, comes_to_layout, does}
 use Rattle.store_model.specs.declared.event.Event.{Event}
-use Rattle.store_model.specs.declared.event.Event.TheVariants.{Trio, Block, Bucket, Role as Stage, Redundancy as Spread, Apply, Tick, Skew, Put, Get, Head, Delete, Copy, List as Keys, Deliver, Lose, Drain, Expire, Restart, Gossip, Ack, Sync, SyncAck, Clean, Work, Repair}
+use Rattle.store_model.specs.declared.event.Event.TheVariants.{Trio, Block, Bucket, Role as Stage, Redundancy as Spread, Apply, Tick, Skew, Put, Get, Head, Delete, Copy, List as Keys, Deliver, Lose, Drain, Expire, Restart, Gossip, Ack, Sync, SyncAck, Clean, Work, Repair, Collect}
 use Rattle.store_model.specs.declared.event.Numbered.{Numbered}
 use Rattle.store_model.specs.Run.{World, State}
 use Rattle.store_model.specs.Events.{Turn, act_of_turn, outcome_of, after, events_of, run}
@@ -88,6 +88,7 @@ has_or_lacks s (SyncAck n) t o h = has (SyncAck n) o tt
 has_or_lacks s (Clean n) t o h = has (Clean n) o tt
 has_or_lacks s (Work n) t o h = has (Work n) o tt
 has_or_lacks s (Repair n) t o h = has (Repair n) o tt
+has_or_lacks s (Collect n) t o h = has (Collect n) o tt
 
 -- what is given without such a print is computed
 given_lawful : (s : State) (t : Turn) (o : Option Print) → IsUnfit s o → IsGiven s t o → IsLawfulAct s (act_of_turn t)

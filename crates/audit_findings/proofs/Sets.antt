@@ -5,7 +5,7 @@ use Rattle.layout_roles.specs.Fits.{NodeSet}
 use Rattle.layout_roles.specs.Sets.{in_order}
 use Rattle.cluster_machine.specs.declared.step.Words.TheVariants.{Empty, One, Idle, Two}
 use Rattle.store_model.specs.declared.event.Event.{Event}
-use Rattle.store_model.specs.declared.event.Event.TheVariants.{Trio, Block, Bucket, Role, Redundancy, Apply, Tick, Skew, Put, Get, Head, Delete, Copy, List as Keys, Deliver, Lose, Drain, Expire, Restart, Gossip, Ack, Sync, SyncAck, Clean, Work, Repair}
+use Rattle.store_model.specs.declared.event.Event.TheVariants.{Trio, Block, Bucket, Role, Redundancy, Apply, Tick, Skew, Put, Get, Head, Delete, Copy, List as Keys, Deliver, Lose, Drain, Expire, Restart, Gossip, Ack, Sync, SyncAck, Clean, Work, Repair, Collect}
 use Rattle.store_model.specs.declared.event.Numbered.{Numbered}
 use Rattle.audit_model.specs.declared.said.Told.{Told}
 use Rattle.audit_model.specs.declared.said.Told.TheVariants.{Accepted, Refused}
@@ -43,6 +43,7 @@ sets_ordered place (said.Nodes nodes ∷ saids) = tt
 sets_ordered place (said.Got m ∷ saids) = tt
 sets_ordered place (said.Sent m kind from to ∷ saids) = tt
 sets_ordered place (said.Synced n v ∷ saids) = tt
+sets_ordered place (said.Dropped n v ∷ saids) = tt
 sets_ordered place (said.Done q word answer ∷ saids) = tt
 sets_ordered place (said.Listed q count ∷ saids) = tt
 sets_ordered place (said.Key key version size ∷ saids) = tt
@@ -83,6 +84,7 @@ print_of_ordered s k line (Some (SyncAck n)) told saids = tt
 print_of_ordered s k line (Some (Clean n)) told saids = tt
 print_of_ordered s k line (Some (Work n)) told saids = tt
 print_of_ordered s k line (Some (Repair n)) told saids = tt
+print_of_ordered s k line (Some (Collect n)) told saids = tt
 print_of_ordered s k line (Some (Apply n)) (Refused refusal) saids = tt
 print_of_ordered s k line (Some (Apply n)) (Accepted Empty) saids = tt
 print_of_ordered s k line (Some (Apply n)) (Accepted (Idle a b)) saids = tt
@@ -98,6 +100,7 @@ print_of_ordered s k line (Some (Apply node)) (Accepted (One number)) (said.Node
 print_of_ordered s k line (Some (Apply node)) (Accepted (One number)) (said.Got m ∷ saids) = tt
 print_of_ordered s k line (Some (Apply node)) (Accepted (One number)) (said.Sent m kind from to ∷ saids) = tt
 print_of_ordered s k line (Some (Apply node)) (Accepted (One number)) (said.Synced n v ∷ saids) = tt
+print_of_ordered s k line (Some (Apply node)) (Accepted (One number)) (said.Dropped n v ∷ saids) = tt
 print_of_ordered s k line (Some (Apply node)) (Accepted (One number)) (said.Done q word answer ∷ saids) = tt
 print_of_ordered s k line (Some (Apply node)) (Accepted (One number)) (said.Listed q count ∷ saids) = tt
 print_of_ordered s k line (Some (Apply node)) (Accepted (One number)) (said.Key key version size ∷ saids) = tt
@@ -122,6 +125,7 @@ prints_ordered events s k (said.Nodes nodes ∷ saids) = prints_ordered events s
 prints_ordered events s k (said.Got m ∷ saids) = prints_ordered events s (suc k) saids
 prints_ordered events s k (said.Sent m kind from to ∷ saids) = prints_ordered events s (suc k) saids
 prints_ordered events s k (said.Synced n v ∷ saids) = prints_ordered events s (suc k) saids
+prints_ordered events s k (said.Dropped n v ∷ saids) = prints_ordered events s (suc k) saids
 prints_ordered events s k (said.Done q word answer ∷ saids) = prints_ordered events s (suc k) saids
 prints_ordered events s k (said.Listed q count ∷ saids) = prints_ordered events s (suc k) saids
 prints_ordered events s k (said.Key key version size ∷ saids) = prints_ordered events s (suc k) saids

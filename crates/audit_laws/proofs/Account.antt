@@ -13,9 +13,9 @@ use Rattle.cluster_machine.specs.declared.applied.Applied.{Applied}
 use Rattle.cluster_machine.specs.declared.line.Line.{Line}
 use Rattle.cluster_machine.specs.declared.line.Line.TheVariants.{Synced, Ended as HasEnded}
 use Rattle.cluster_machine.specs.declared.line.EndWord.TheVariants.{Expired, Restarted}
-use Rattle.cluster_machine.specs.declared.step.Action.TheVariants.{Ack as RaiseAck, Sync as GoOn, SyncAck as RaiseSyncAck, Clean as CleanUp, Work as WorkOff, Repair as Mend}
+use Rattle.cluster_machine.specs.declared.step.Action.TheVariants.{Ack as RaiseAck, Sync as GoOn, SyncAck as RaiseSyncAck, Clean as CleanUp, Work as WorkOff, Repair as Mend, Collect as Gather}
 use Rattle.cluster_machine.specs.declared.step.Step.{Step}
-use Rattle.cluster_machine.specs.declared.step.Step.TheVariants.{Trio, Role as Stage, Redundancy as Spread, Apply, Tick, Skew, Deliver, Lose, Expire, Restart, Gossip, Ack, Sync as Syncs, SyncAck, Clean, Work, Repair, Open, Phase as Begin, Close}
+use Rattle.cluster_machine.specs.declared.step.Step.TheVariants.{Trio, Role as Stage, Redundancy as Spread, Apply, Tick, Skew, Deliver, Lose, Expire, Restart, Gossip, Ack, Sync as Syncs, SyncAck, Clean, Work, Repair, Collect, Open, Phase as Begin, Close}
 use Rattle.cluster_machine.specs.declared.step.Refusal.TheVariants.{VersionTaken, VersionLimit, NotMember, Lost, AlreadyEnded, NoSuchBucket}
 use Rattle.cluster_machine.specs.Layouts.{layouts, has_none}
 use Rattle.cluster_machine.specs.Node.{Call, Did, Ended, shows, quiet}
@@ -24,7 +24,7 @@ use Rattle.cluster_machine.specs.Receives.{receives}
 use Rattle.cluster_machine.specs.Acts.{Acted, acts}
 use Rattle.cluster_machine.specs.World.{Sent, Mark, Request, numbered, clock, is_member_at, undelivered}
 use Rattle.cluster_machine.specs.Choices.{Decision}
-use Rattle.cluster_machine.specs.Step.{most_versions, given, none_given, nothing, refusal as world_refusal, only, sent_by, sent_from, sync_line, did, at_message, expires, closing, chosen, applies_at, trio_applies, acting, begun, beginning, effects}
+use Rattle.cluster_machine.specs.Step.{most_versions, given, none_given, nothing, refusal as world_refusal, only, sent_by, sent_from, sync_line, dropped_line, did, at_message, expires, closing, chosen, applies_at, trio_applies, acting, begun, beginning, effects}
 use Rattle.cluster_machine.specs.Trio.{trio, stage_trio}
 use Rattle.cluster_machine.specs.Worlds.{Done as Effect}
 use Rattle.history_model.specs.declared.record.Kind.{Kind}
@@ -70,6 +70,10 @@ synced_quiet : (b : Bool) (n after : ℕ) → records_told (cond b [] (Synced n 
 synced_quiet true n after = refl
 synced_quiet false n after = refl
 
+dropped_quiet : (n : ℕ) (o : Option (ℕ × ℕ)) → records_told (dropped_line {A = Applied} n o) ≡ []
+dropped_quiet n None = refl
+dropped_quiet n (Some version) = refl
+
 cond_quiet : (b : Bool) (x y : Effect AnyRow) → Quiet x → Quiet y → Quiet (cond b x y)
 cond_quiet true x y h k = h
 cond_quiet false x y h k = k
@@ -78,8 +82,12 @@ module _ (w : World) where
   did_quiet : (n : ℕ) (d : Did AnyRow Layout) → Quiet (did w n d)
   did_quiet n d =
       let sends : List (Sent AnyRow Layout) = sent_by w n d.posts in
-      told_append (sent_from (suc (length w.messages)) sends) (sync_line n (w.nodes n).view d.node.view)
-      ∙ ((λ i. sent_quiet (suc (length w.messages)) sends i ++ records_told (sync_line n (w.nodes n).view d.node.view)) ∙ synced_quiet _ n _)
+      let first : List (Line Applied) = dropped_line n d.dropped in
+      let sent : List (Line Applied) = sent_from (suc (length w.messages)) sends in
+      let last : List (Line Applied) = sync_line n (w.nodes n).view d.node.view in
+      told_append first (sent ++ last)
+      ∙ ((λ i. dropped_quiet n d.dropped i ++ records_told (sent ++ last))
+      ∙ (told_append sent last ∙ ((λ i. sent_quiet (suc (length w.messages)) sends i ++ records_told last) ∙ synced_quiet _ n _)))
 
   message_quiet : (f : Sent AnyRow Layout → Effect AnyRow) → ((s : Sent AnyRow Layout) → Quiet (f s)) → (o : Option (Sent AnyRow Layout)) (mark : Option Mark) → Quiet (at_message w f o mark)
   message_quiet f each None mark = refl
@@ -151,6 +159,7 @@ module _ (w : World) where
   step_ends (Clean n) choice h = acting_quiet n (has_none layouts (w.nodes n).view) (acts any_join words layouts n (clock w n) (w.nodes n) CleanUp)
   step_ends (Work n) choice h = acting_quiet n (has_none layouts (w.nodes n).view) (acts any_join words layouts n (clock w n) (w.nodes n) WorkOff)
   step_ends (Repair n) choice h = acting_quiet n (not (is_member_at layouts w n)) (acts any_join words layouts n (clock w n) (w.nodes n) Mend)
+  step_ends (Collect n) choice h = acting_quiet n (has_none layouts (w.nodes n).view) (acts any_join words layouts n (clock w n) (w.nodes n) Gather)
   step_ends (Open n) choice h = absurd h
   step_ends (Begin q phase) choice h = absurd h
   step_ends (Close q) choice h = absurd h

@@ -18,7 +18,7 @@ use Rattle.cluster_machine.specs.Rounds.{may_sync, begin_round}
 use Rattle.cluster_machine.specs.declared.step.LocalEnd.TheVariants.{At, Idle as IsIdle}
 use Rattle.cluster_machine.specs.declared.line.Line.TheVariants.{Ended as HasEnded}
 use Rattle.cluster_machine.specs.declared.line.EndWord.TheVariants.{Expired}
-use Rattle.cluster_machine.specs.declared.step.Action.TheVariants.{Ack as RaiseAck, Sync as GoOn, SyncAck as RaiseSyncAck, Clean as CleanUp, Work as WorkOff, Repair as Mend}
+use Rattle.cluster_machine.specs.declared.step.Action.TheVariants.{Ack as RaiseAck, Sync as GoOn, SyncAck as RaiseSyncAck, Clean as CleanUp, Work as WorkOff, Repair as Mend, Collect as Gather}
 use Rattle.cluster_machine.specs.Choices.{Decision}
 use Rattle.cluster_machine.specs.Step.{most_versions, given, none_given, nothing, refusal as world_refusal, at_message, expires, chosen, applies_at, trio_applies, acting, did, received, only, told}
 use Rattle.cluster_machine.specs.Trio.{trio, stage_trio}
@@ -136,3 +136,4 @@ event_answers s (event.SyncAck n) choice = acting_may s.world (event.SyncAck n) 
 event_answers s (event.Clean n) choice = acting_may s.world (event.Clean n) n (has_none layouts (s.world.nodes n).view) (acts any_join words layouts n (clock s.world n) (s.world.nodes n) CleanUp) refl
 event_answers s (event.Work n) choice = acting_may s.world (event.Work n) n (has_none layouts (s.world.nodes n).view) (acts any_join words layouts n (clock s.world n) (s.world.nodes n) WorkOff) refl
 event_answers s (event.Repair n) choice = acting_may s.world (event.Repair n) n (not (is_member_at layouts s.world n)) (acts any_join words layouts n (clock s.world n) (s.world.nodes n) Mend) refl
+event_answers s (event.Collect n) choice = acting_may s.world (event.Collect n) n (has_none layouts (s.world.nodes n).view) (acts any_join words layouts n (clock s.world n) (s.world.nodes n) Gather) refl

@@ -216,3 +216,4 @@ event_goes s (event.SyncAck n) choice so = so
 event_goes s (event.Clean n) choice so = so
 event_goes s (event.Work n) choice so = so
 event_goes s (event.Repair n) choice so = so
+event_goes s (event.Collect n) choice so = so

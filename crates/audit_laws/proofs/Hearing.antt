@@ -64,6 +64,7 @@ line_heard events asked history (line.Layout shown) ok = ap (λ h. Some (quiet a
 line_heard events asked history (line.Got m) ok = ap (λ h. Some (quiet asked h)) (sym (append-nil history))
 line_heard events asked history (line.Sent m k a b) ok = ap (λ h. Some (quiet asked h)) (sym (append-nil history))
 line_heard events asked history (line.Synced n v) ok = ap (λ h. Some (quiet asked h)) (sym (append-nil history))
+line_heard events asked history (line.Dropped n ts id) ok = ap (λ h. Some (quiet asked h)) (sym (append-nil history))
 line_heard events asked history (line.Done q w (Some v) size md5) ok = rw (ok.1.0, ok.1.1) refl
 line_heard events asked history (line.Done q w None size md5) ok = rw (ok.1.0, ok.1.1) refl
 line_heard events asked history (line.Listed q []) ok = rw (ok) refl
@@ -112,6 +113,7 @@ refused_heard (event.SyncAck n) choice asked history o r = no_more asked history
 refused_heard (event.Clean n) choice asked history o r = no_more asked history
 refused_heard (event.Work n) choice asked history o r = no_more asked history
 refused_heard (event.Repair n) choice asked history o r = no_more asked history
+refused_heard (event.Collect n) choice asked history o r = no_more asked history
 
 accepted_heard : (e : Event) (choice : Decision) (asked : List (ℕ × Kind)) (history : List Record) (o : Outcome) (words : Words) → IsAnswered e (asking_of e) None words →
     tells (quiet asked history) (Some e) (told_of None words) ≡ Some (quiet (asked_by (asking_of e) None words ++ asked) (history ++ began_of (act_of e choice) (record o { refused = None; words = words })))
@@ -159,6 +161,7 @@ accepted_heard (event.SyncAck n) choice asked history o words ok = rw (ok) (no_m
 accepted_heard (event.Clean n) choice asked history o words ok = rw (ok) (no_more asked history)
 accepted_heard (event.Work n) choice asked history o words ok = rw (ok) (no_more asked history)
 accepted_heard (event.Repair n) choice asked history o words ok = rw (ok) (no_more asked history)
+accepted_heard (event.Collect n) choice asked history o words ok = rw (ok) (no_more asked history)
 
 answer_heard : (e : Event) (choice : Decision) (asked : List (ℕ × Kind)) (history : List Record) (o : Outcome) (refused : Option (Refusal Cut)) (words : Words) → IsAnswered e (asking_of e) refused words →
     tells (quiet asked history) (Some e) (told_of refused words) ≡ Some (quiet (asked_by (asking_of e) refused words ++ asked) (history ++ began_of (act_of e choice) (record o { refused = refused; words = words })))
@@ -208,6 +211,7 @@ outer (event.SyncAck n) choice = tt
 outer (event.Clean n) choice = tt
 outer (event.Work n) choice = tt
 outer (event.Repair n) choice = tt
+outer (event.Collect n) choice = tt
 
 -- the account that the lines of turns give is their history, but for the identifiers of superseded ends
 pub turns_heard : (events : List Numbered) (asked : List (ℕ × Kind)) (s : State) (ts : List Turn) → NoneGivenUp s.asked → TurnsCanBeHeard events asked s ts →

@@ -116,6 +116,7 @@ line_says (line.Layout shown) told = absurd told
 line_says (line.Got m) told = one (said.Got m) _ (of_words (codes "got") (decimal m ∷ []))
 line_says (line.Sent m k a b) told = one (said.Sent m k a b) _ (of_words (codes "sent") (decimal m ∷ kind_text k ∷ decimal a ∷ decimal b ∷ []))
 line_says (line.Synced n v) told = one (said.Synced n v) _ (of_words (codes "synced") (decimal n ∷ decimal v ∷ []))
+line_says (line.Dropped n ts id) told = one (said.Dropped n (ts, id)) _ (of_words (codes "dropped") (decimal n ∷ version_word (ts, id) ∷ []))
 line_says (line.Done q w None None None) told = one (said.Done q w answered.None) _ (done_line (done_text w) q (codes "none") None None)
 line_says (line.Done q w None (Some size) md5) told = cc
 line_says (line.Done q w None None (Some md5)) told = cc

@@ -16,7 +16,7 @@ use Rattle.text_model.specs.Words.{words_in}
 use Rattle.audit_model.specs.declared.said.Answered.{Answered}
 use Rattle.audit_model.specs.declared.said.Answered.TheVariants as answered
 use Rattle.audit_model.specs.declared.said.Said.{Said}
-use Rattle.audit_model.specs.declared.said.Said.TheVariants.{Event, Size, Redundancy, Sets, Cut, Side, Nodes, Got, Sent, Synced, Done, Listed, Key, Ended, Node, Fresh, End}
+use Rattle.audit_model.specs.declared.said.Said.TheVariants.{Event, Size, Redundancy, Sets, Cut, Side, Nodes, Got, Sent, Synced, Dropped, Done, Listed, Key, Ended, Node, Fresh, End}
 use Rattle.audit_model.specs.Lines.{words_of, told_numbers, answered_numbers, AreNumbers, AreBelow, IsAnswerOf, IsInRange, Says}
 use Rattle.audit_model.specs.Reading.{is_small, are_small, are_below, is_digest, is_answer_of, is_in_range, where_said, said_in, said_of}
 use Rattle.audit_model.specs.Heard.{Heard, Listing, nothing_heard, hears, Hears, AreReadable, IsDeaf, IsUnreadable}
@@ -113,6 +113,7 @@ range_holds (Nodes ns) h = numbers_hold ns h
 range_holds (Got m) h = ltb-true m (2 ^ 64) h
 range_holds (Sent m k from to) h = numbers_hold (m ∷ from ∷ to ∷ []) h
 range_holds (Synced n v) h = numbers_hold (n ∷ v ∷ []) h
+range_holds (Dropped n v) h = numbers_hold (n ∷ v.0 ∷ v.1 ∷ []) h
 range_holds (Done q word answer) h = let p = and_parts (are_small (q ∷ answered_numbers answer)) _ h in (numbers_hold (q ∷ answered_numbers answer) p.0, answer_holds word answer p.1)
 range_holds (Listed q count) h = numbers_hold (q ∷ count ∷ []) h
 range_holds (Key key v size) h = let p = and_parts (are_small (v.0 ∷ v.1 ∷ size ∷ [])) _ h in (numbers_hold (v.0 ∷ v.1 ∷ size ∷ []) p.0, p.1)
@@ -132,6 +133,7 @@ range_test (Nodes ns) h = numbers_test ns h
 range_test (Got m) h = lt-ltb m (2 ^ 64) h
 range_test (Sent m k from to) h = numbers_test (m ∷ from ∷ to ∷ []) h
 range_test (Synced n v) h = numbers_test (n ∷ v ∷ []) h
+range_test (Dropped n v) h = numbers_test (n ∷ v.0 ∷ v.1 ∷ []) h
 range_test (Done q word answer) h = and_from _ _ (numbers_test (q ∷ answered_numbers answer) h.0) (answer_test word answer h.1)
 range_test (Listed q count) h = numbers_test (q ∷ count ∷ []) h
 range_test (Key key v size) h = and_from _ _ (numbers_test (v.0 ∷ v.1 ∷ size ∷ []) h.0) h.1

@@ -26,7 +26,7 @@ use Rattle.audit_model.specs.declared.said.Told.{Told}
 use Rattle.audit_model.specs.declared.said.Told.TheVariants.{Accepted, Refused}
 use Rattle.audit_model.specs.declared.said.Answered.TheVariants as answered
 use Rattle.audit_model.specs.declared.said.Said.{Said}
-use Rattle.audit_model.specs.declared.said.Said.TheVariants.{Event, Size, Redundancy, Sets, Cut, Side, Nodes, Got, Sent, Synced, Done, Listed, Key, Ended, Node, Fresh, End}
+use Rattle.audit_model.specs.declared.said.Said.TheVariants.{Event, Size, Redundancy, Sets, Cut, Side, Nodes, Got, Sent, Synced, Dropped, Done, Listed, Key, Ended, Node, Fresh, End}
 use Rattle.audit_model.specs.Lines.{refusal_words, answer_words, version_word, zone_word, words_of, AreNumbers, AreBelow, refusal_numbers, answer_numbers, told_numbers, IsInRange}
 use Rattle.audit_model.specs.Reading.{two_numbers, version_in, bytes_or_none, digest_in, kind_in, end_in, answer_in, refusal_in, begins, zones_in, said_in}
 
@@ -82,6 +82,9 @@ kind_back kind.NotHere = refl
 kind_back kind.BlockGet = refl
 kind_back kind.Block = refl
 kind_back kind.NoBlock = refl
+kind_back kind.Tomb = refl
+kind_back kind.Tombed = refl
+kind_back kind.Forget = refl
 kind_back kind.View = refl
 kind_back kind.Walk = refl
 kind_back kind.Same = refl
@@ -169,6 +172,7 @@ said_back (Nodes ns) h = ap (λ x. Some (Nodes x)) (numbers_back ns h)
 said_back (Got m) h = ap (λ x. Some (Got x)) (read_back m h)
 said_back (Sent m k from to) h = λ i. Some (Sent (read_back m h.0 i) (kind_back k i) (read_back from h.1.0 i) (read_back to h.1.1.0 i))
 said_back (Synced n v) h = λ i. Some (Synced (read_back n h.0 i) (read_back v h.1.0 i))
+said_back (Dropped n v) h = λ i. Some (Dropped (read_back n h.0 i) (version_back v h.1.0 h.1.1.0 i))
 said_back (Done q done.Put (answered.Version v None None)) h =
     let a = read_back q h.0.0 in
     let d = version_is_number v h.0.1.0 in

@@ -29,7 +29,7 @@ use Rattle.audit_model.specs.declared.said.Told.{Told}
 use Rattle.audit_model.specs.declared.said.Told.TheVariants.{Accepted, Refused}
 use Rattle.audit_model.specs.declared.said.Answered.TheVariants as answered
 use Rattle.audit_model.specs.declared.said.Said.{Said}
-use Rattle.audit_model.specs.declared.said.Said.TheVariants.{Event, Size, Redundancy, Sets, Cut, Side, Nodes, Got, Sent, Synced, Done, Listed, Key, Ended, Node, Fresh, End}
+use Rattle.audit_model.specs.declared.said.Said.TheVariants.{Event, Size, Redundancy, Sets, Cut, Side, Nodes, Got, Sent, Synced, Dropped, Done, Listed, Key, Ended, Node, Fresh, End}
 use Rattle.audit_model.specs.Lines.{refusal_words, answer_words, told_words, version_word, word_where, zone_word, words_of, is_letter, AreNumbers, AreBelow, refusal_numbers, answer_numbers, told_numbers, IsInRange, Says}
 use Rattle.audit_model.specs.Heard.{Heard, hears, Hears, AreReadable}
 use Rattle.audit_model.proofs.Read.{same_words_say_one}
@@ -120,6 +120,9 @@ kind_no_space kind.NotHere = name_no_space (codes "nothere") (search rules)
 kind_no_space kind.BlockGet = name_no_space (codes "blockget") (search rules)
 kind_no_space kind.Block = name_no_space (codes "block") (search rules)
 kind_no_space kind.NoBlock = name_no_space (codes "noblock") (search rules)
+kind_no_space kind.Tomb = name_no_space (codes "tomb") (search rules)
+kind_no_space kind.Tombed = name_no_space (codes "tombed") (search rules)
+kind_no_space kind.Forget = name_no_space (codes "forget") (search rules)
 kind_no_space kind.View = name_no_space (codes "view") (search rules)
 kind_no_space kind.Walk = name_no_space (codes "walk") (search rules)
 kind_no_space kind.Same = name_no_space (codes "same") (search rules)
@@ -181,6 +184,7 @@ no_spaces (Nodes ns) h = (name_no_space (codes "cn") (search rules), numbers_no_
 no_spaces (Got m) h = (name_no_space (codes "got") (search rules), (number_no_space m h, tt))
 no_spaces (Sent m k from to) h = (name_no_space (codes "sent") (search rules), (number_no_space m h.0, (kind_no_space k, (number_no_space from h.1.0, (number_no_space to h.1.1.0, tt)))))
 no_spaces (Synced n v) h = (name_no_space (codes "synced") (search rules), (number_no_space n h.0, (number_no_space v h.1.0, tt)))
+no_spaces (Dropped n v) h = (name_no_space (codes "dropped") (search rules), (number_no_space n h.0, (version_no_space v h.1.0 h.1.1.0, tt)))
 no_spaces (Done q done.Put (answered.Version v None None)) h = (name_no_space (codes "done") (search rules), (number_no_space q h.0.0, (name_no_space (codes "put") (search rules), (version_no_space v h.0.1.0 h.0.1.1.0, tt))))
 no_spaces (Done q done.Put (answered.Version v None (Some md5))) h = absurd h.1
 no_spaces (Done q done.Put (answered.Version v (Some size) None)) h = absurd h.1
@@ -233,6 +237,7 @@ words_read (Nodes ns) h = line_words (Nodes ns) _ _ refl h
 words_read (Got m) h = line_words (Got m) _ _ refl h
 words_read (Sent m k from to) h = line_words (Sent m k from to) _ _ refl h
 words_read (Synced n v) h = line_words (Synced n v) _ _ refl h
+words_read (Dropped n v) h = line_words (Dropped n v) _ _ refl h
 words_read (Done q word answer) h = line_words (Done q word answer) _ _ refl h
 words_read (Listed q count) h = line_words (Listed q count) _ _ refl h
 words_read (Key key v size) h = line_words (Key key v size) _ _ refl h

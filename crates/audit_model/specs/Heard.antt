@@ -18,7 +18,7 @@ use Rattle.history_model.specs.declared.record.Record.TheVariants.{Began, Finish
 use Rattle.std.specs.Option.{option_and_then}
 use Rattle.history_model.specs.Record.{same_bytes, is_list}
 use Rattle.store_model.specs.declared.event.Event.{Event}
-use Rattle.store_model.specs.declared.event.Event.TheVariants.{Apply, Put, Get, Head, Delete, Copy, List as Keys, Ack, Sync, SyncAck, Clean, Work}
+use Rattle.store_model.specs.declared.event.Event.TheVariants.{Apply, Put, Get, Head, Delete, Copy, List as Keys, Ack, Sync, SyncAck, Clean, Work, Collect}
 use Rattle.store_model.specs.declared.event.Numbered.{Numbered}
 use Rattle.text_model.specs.Grammar.{name_of}
 use Rattle.audit_model.specs.declared.said.Told.{Told}
@@ -67,12 +67,14 @@ is_answer (Clean n) (One v) = true
 is_answer (Sync n) (One v) = true
 is_answer (Sync n) (Idle read least) = true
 is_answer (Work n) (Two rows blocks) = true
+is_answer (Collect n) (Two begun left) = true
 is_answer (Apply n) Empty = false
 is_answer (Ack n) Empty = false
 is_answer (SyncAck n) Empty = false
 is_answer (Clean n) Empty = false
 is_answer (Sync n) Empty = false
 is_answer (Work n) Empty = false
+is_answer (Collect n) Empty = false
 is_answer event Empty = true
 is_answer event words = false
 

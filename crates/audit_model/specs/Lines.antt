@@ -16,7 +16,7 @@ use Rattle.audit_model.specs.declared.said.Told.TheVariants.{Accepted, Refused}
 use Rattle.audit_model.specs.declared.said.Answered.{Answered}
 use Rattle.audit_model.specs.declared.said.Answered.TheVariants as answered
 use Rattle.audit_model.specs.declared.said.Said.{Said}
-use Rattle.audit_model.specs.declared.said.Said.TheVariants.{Event, Size, Redundancy, Sets, Cut, Side, Nodes, Got, Sent, Synced, Done, Listed, Key, Ended, Node, Fresh, End}
+use Rattle.audit_model.specs.declared.said.Said.TheVariants.{Event, Size, Redundancy, Sets, Cut, Side, Nodes, Got, Sent, Synced, Dropped, Done, Listed, Key, Ended, Node, Fresh, End}
 
 -- ---- words
 
@@ -81,6 +81,7 @@ words_of (Nodes nodes) = codes "cn" ∷ map decimal nodes
 words_of (Got m) = codes "got" ∷ decimal m ∷ []
 words_of (Sent m kind from to) = codes "sent" ∷ decimal m ∷ kind_text kind ∷ decimal from ∷ decimal to ∷ []
 words_of (Synced n v) = codes "synced" ∷ decimal n ∷ decimal v ∷ []
+words_of (Dropped n version) = codes "dropped" ∷ decimal n ∷ version_word version ∷ []
 words_of (Done q word answer) = codes "done" ∷ decimal q ∷ done_text word ∷ answered_words answer
 words_of (Listed q count) = codes "done" ∷ decimal q ∷ codes "list" ∷ decimal count ∷ []
 words_of (Key key version size) = codes "key" ∷ key ∷ version_word version ∷ decimal size ∷ []
@@ -156,6 +157,7 @@ IsInRange (Nodes nodes) = AreNumbers nodes
 IsInRange (Got m) = IsNumber m
 IsInRange (Sent m kind from to) = AreNumbers (m ∷ from ∷ to ∷ [])
 IsInRange (Synced n v) = AreNumbers (n ∷ v ∷ [])
+IsInRange (Dropped n version) = AreNumbers (n ∷ version.0 ∷ version.1 ∷ [])
 IsInRange (Done q word answer) = AreNumbers (q ∷ answered_numbers answer) × IsAnswerOf word answer
 IsInRange (Listed q count) = AreNumbers (q ∷ count ∷ [])
 IsInRange (Key key version size) = AreNumbers (version.0 ∷ version.1 ∷ size ∷ []) × IsTrue (is_key key)

@@ -25,7 +25,7 @@ use Rattle.audit_model.specs.declared.said.Told.TheVariants.{Accepted, Refused}
 use Rattle.audit_model.specs.declared.said.Answered.{Answered}
 use Rattle.audit_model.specs.declared.said.Answered.TheVariants as answered
 use Rattle.audit_model.specs.declared.said.Said.{Said}
-use Rattle.audit_model.specs.declared.said.Said.TheVariants.{Event, Size, Redundancy, Sets, Cut, Side, Nodes, Got, Sent, Synced, Done, Listed, Key, Ended, Node, Fresh, End}
+use Rattle.audit_model.specs.declared.said.Said.TheVariants.{Event, Size, Redundancy, Sets, Cut, Side, Nodes, Got, Sent, Synced, Dropped, Done, Listed, Key, Ended, Node, Fresh, End}
 
 -- two numbers with a slash between them
 abbrev pub two_numbers : List (List ℕ) → ℕ × ℕ
@@ -59,6 +59,9 @@ kind_in w =
     else if bytes_eq w (codes "blockget") then kind.BlockGet
     else if bytes_eq w (codes "block") then kind.Block
     else if bytes_eq w (codes "noblock") then kind.NoBlock
+    else if bytes_eq w (codes "tomb") then kind.Tomb
+    else if bytes_eq w (codes "tombed") then kind.Tombed
+    else if bytes_eq w (codes "forget") then kind.Forget
     else if bytes_eq w (codes "walk") then kind.Walk
     else if bytes_eq w (codes "same") then kind.Same
     else if bytes_eq w (codes "differ") then kind.Differ
@@ -159,6 +162,7 @@ abbrev pub two_said : List ℕ → ℕ → List ℕ → Said
 two_said w n b =
     if bytes_eq w (codes "cut") then Cut n (number_in b)
     else if bytes_eq w (codes "synced") then Synced n (number_in b)
+    else if bytes_eq w (codes "dropped") then Dropped n (version_in b)
     else Ended n (end_in b)
 
 -- a version, or none
@@ -248,6 +252,7 @@ is_in_range (Nodes nodes) = are_small nodes
 is_in_range (Got m) = is_small m
 is_in_range (Sent m kind from to) = are_small (m ∷ from ∷ to ∷ [])
 is_in_range (Synced n v) = are_small (n ∷ v ∷ [])
+is_in_range (Dropped n version) = are_small (n ∷ version.0 ∷ version.1 ∷ [])
 is_in_range (Done q word answer) = are_small (q ∷ answered_numbers answer) && is_answer_of word answer
 is_in_range (Listed q count) = are_small (q ∷ count ∷ [])
 is_in_range (Key key version size) = are_small (version.0 ∷ version.1 ∷ size ∷ []) && is_key key

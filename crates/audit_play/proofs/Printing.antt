@@ -12,7 +12,7 @@ use Rattle.cluster_machine.specs.Step.{given, none_given}
 use Rattle.cluster_machine.specs.Worlds.{newest_at, comes_to_layout}
 use Rattle.change_model.specs.Given.{layout_of, given_at}
 use Rattle.store_model.specs.declared.event.Event.{Event}
-use Rattle.store_model.specs.declared.event.Event.TheVariants.{Trio, Block, Bucket, Role, Redundancy, Apply, Tick, Skew, Put, Get, Head, Delete, Copy, List as Keys, Deliver, Lose, Drain, Expire, Restart, Gossip, Ack, Sync, SyncAck, Clean, Work, Repair}
+use Rattle.store_model.specs.declared.event.Event.TheVariants.{Trio, Block, Bucket, Role, Redundancy, Apply, Tick, Skew, Put, Get, Head, Delete, Copy, List as Keys, Deliver, Lose, Drain, Expire, Restart, Gossip, Ack, Sync, SyncAck, Clean, Work, Repair, Collect}
 use Rattle.store_model.specs.declared.event.Numbered.{Numbered}
 use Rattle.store_model.specs.Run.{State}
 use Rattle.store_model.specs.Acts.{IsLawfulAct}
@@ -156,6 +156,7 @@ fit shows s (SyncAck n) choice line p shown is so h = record { other = nothing_g
 fit shows s (Clean n) choice line p shown is so h = record { other = nothing_given; is_given = as_printed so tt; same = refl; same_steps = refl }
 fit shows s (Work n) choice line p shown is so h = record { other = nothing_given; is_given = as_printed so tt; same = refl; same_steps = refl }
 fit shows s (Repair n) choice line p shown is so h = record { other = nothing_given; is_given = as_printed so tt; same = refl; same_steps = refl }
+fit shows s (Collect n) choice line p shown is so h = record { other = nothing_given; is_given = as_printed so tt; same = refl; same_steps = refl }
 
 nothing_shown : (o : Option ℕ) → shown_at o None ≡ None
 nothing_shown None = refl

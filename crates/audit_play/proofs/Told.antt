@@ -52,6 +52,7 @@ line_whole (line.Layout shown) = layout_whole shown.roles.list shown.certified
 line_whole (line.Got m) = feed_whole (codes "got" ++ number m)
 line_whole (line.Sent m k a b) = feed_whole (codes "sent" ++ number m ++ word (kind_text k) ++ number a ++ number b)
 line_whole (line.Synced n v) = feed_whole (codes "synced" ++ number n ++ number v)
+line_whole (line.Dropped n ts id) = feed_whole (codes "dropped" ++ number n ++ word (version_text (Some (ts, id))))
 line_whole (line.Done q w version size md5) = feed_whole (codes "done" ++ number q ++ word (done_text w) ++ word (version_text version) ++ size_text size ++ digest_text md5)
 line_whole (line.Listed q keys) =
     both_whole (codes "done" ++ number q ++ word (codes "list") ++ number (length keys) ++ 10 ∷ []) (flat_map key_line keys)

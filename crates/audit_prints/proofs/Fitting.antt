@@ -74,6 +74,7 @@ lines_in_order place (said.Nodes nodes ∷ saids) = tt
 lines_in_order place (said.Got m ∷ saids) = tt
 lines_in_order place (said.Sent m kind from to ∷ saids) = tt
 lines_in_order place (said.Synced n v ∷ saids) = tt
+lines_in_order place (said.Dropped n v ∷ saids) = tt
 lines_in_order place (said.Done q word answer ∷ saids) = tt
 lines_in_order place (said.Listed q count ∷ saids) = tt
 lines_in_order place (said.Key key version size ∷ saids) = tt

@@ -2,7 +2,7 @@
 use Rattle.std.proofs.Common.{◌≡◌, ℕ, suc, drop, Option, Some, None, List, [], ◌∷◌, refl, sym, ap, subst, ◌∙◌}
 use Rattle.cluster_machine.specs.declared.step.Words.TheVariants.{Empty, One, Idle, Two}
 use Rattle.store_model.specs.declared.event.Event.{Event}
-use Rattle.store_model.specs.declared.event.Event.TheVariants.{Trio, Block, Bucket, Role, Redundancy, Apply, Tick, Skew, Put, Get, Head, Delete, Copy, List as Keys, Deliver, Lose, Drain, Expire, Restart, Gossip, Ack, Sync, SyncAck, Clean, Work, Repair}
+use Rattle.store_model.specs.declared.event.Event.TheVariants.{Trio, Block, Bucket, Role, Redundancy, Apply, Tick, Skew, Put, Get, Head, Delete, Copy, List as Keys, Deliver, Lose, Drain, Expire, Restart, Gossip, Ack, Sync, SyncAck, Clean, Work, Repair, Collect}
 use Rattle.audit_model.specs.declared.said.Told.{Told}
 use Rattle.audit_model.specs.declared.said.Told.TheVariants.{Accepted, Refused}
 use Rattle.audit_model.specs.declared.said.Said.{Said}
@@ -50,6 +50,7 @@ print_by_size s k line (SyncAck n) told saids = refl
 print_by_size s k line (Clean n) told saids = refl
 print_by_size s k line (Work n) told saids = refl
 print_by_size s k line (Repair n) told saids = refl
+print_by_size s k line (Collect n) told saids = refl
 print_by_size s k line (Apply node) (Refused refusal) saids = refl
 print_by_size s k line (Apply node) (Accepted Empty) saids = refl
 print_by_size s k line (Apply node) (Accepted (Idle a b)) saids = refl
@@ -65,6 +66,7 @@ print_by_size s k line (Apply node) (Accepted (One number)) (said.Nodes nodes �
 print_by_size s k line (Apply node) (Accepted (One number)) (said.Got m ∷ saids) = refl
 print_by_size s k line (Apply node) (Accepted (One number)) (said.Sent m kind from to ∷ saids) = refl
 print_by_size s k line (Apply node) (Accepted (One number)) (said.Synced n v ∷ saids) = refl
+print_by_size s k line (Apply node) (Accepted (One number)) (said.Dropped n v ∷ saids) = refl
 print_by_size s k line (Apply node) (Accepted (One number)) (said.Done q word answer ∷ saids) = refl
 print_by_size s k line (Apply node) (Accepted (One number)) (said.Listed q count ∷ saids) = refl
 print_by_size s k line (Apply node) (Accepted (One number)) (said.Key key version size ∷ saids) = refl

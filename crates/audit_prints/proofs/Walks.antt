@@ -143,6 +143,7 @@ module _ (events : List Numbered) (saids : List Said) where
   passed s k (said.Got m) rest other = refl
   passed s k (said.Sent m kind from to) rest other = refl
   passed s k (said.Synced n v) rest other = refl
+  passed s k (said.Dropped n v) rest other = refl
   passed s k (said.Done q word answer) rest other = refl
   passed s k (said.Listed q count) rest other = refl
   passed s k (said.Key key version size) rest other = refl

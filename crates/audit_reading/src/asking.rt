@@ -79,7 +79,7 @@ pub fn is_answer(event: &Event, words: Words) -> bool
             matches!(words, Words::One(_))
         }
         Event::Sync(_) => matches!(words, Words::One(_) | Words::Idle(_, _)),
-        Event::Work(_) => matches!(words, Words::Two(_, _)),
+        Event::Work(_) | Event::Collect(_) => matches!(words, Words::Two(_, _)),
         _ => matches!(words, Words::Empty),
     }
 }

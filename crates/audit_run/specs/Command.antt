@@ -20,6 +20,7 @@ use Rattle.text_model.specs.Grammar.{lines_of}
 use Rattle.text_model.specs.Reading.{IsSchedule}
 use Rattle.text_model.specs.Transcript.{transcript}
 use Rattle.text_model.specs.Played.{ArePlayed}
+use Rattle.prompt_laws.specs.Times.{CollectsInTime}
 use Rattle.audit_model.specs.declared.said.Said.{Said}
 use Rattle.audit_model.specs.Heard.{AreReadable}
 use Rattle.audit_model.specs.Printed.{all_prints, IsLawfulPrint}
@@ -40,12 +41,13 @@ pub record IsWell (input : List ℕ) (old new : Option (List ℕ)) : Type 0 wher
   pub audited : IsAudited events transcript pairs
   pub wrote : Wrote old new (finding_line (ok pairs))
 
--- turns of a schedule that are given lawful layouts, whatever lines print them and with whatever cuts: their own transcript can be read; and the account that it gives is fresh where no digests clash in a replay beside them
+-- turns of a schedule that are given lawful layouts, whatever lines print them and with whatever cuts: their own transcript can be read; and the account that it gives is fresh where no digests clash in a replay beside them, and what it collects is collected in time
 pub record OwnTextsAreFresh : Type 0 where
   pub readable : (schedule : List ℕ) (events : List Numbered) (saids : List Said) (turns : List Turn) → IsSchedule schedule events → length schedule < 2 ^ 64 → AllByRecursion IsLawfulPrint (all_prints events saids) →
       ArePrinted events (all_prints events saids) turns → (said : List Said) × ((h : List Record) × AreReadable events (lines_of (transcript turns)) said h)
   pub fresh : (schedule : List ℕ) (events : List Numbered) (saids : List Said) (turns others : List Turn) → IsSchedule schedule events → length schedule < 2 ^ 64 → AllByRecursion IsLawfulPrint (all_prints events saids) →
-      ArePrinted events (all_prints events saids) turns → DifferInCuts turns others → ArePlayed others → WalksAreClear (acts_of others) → NoClash (run start turns).buckets →
+      ArePrinted events (all_prints events saids) turns → DifferInCuts turns others → ArePlayed others →
+      WalksAreClear (acts_of others) → CollectsInTime (acts_of others) → NoClash (run start turns).buckets →
       (said : List Said) (h : List Record) → AreReadable events (lines_of (transcript turns)) said h → Fresh h
 
 -- what an audit does: input and output are as is said of every command; Done says that all is well; no run's own transcript is found stale, but for digests that clash; and where no count of faults rose, the status and the line that are stated come, which are one, or memory was wanting

@@ -14,7 +14,7 @@ use Rattle.cluster_machine.specs.Step.{most_versions, given, none_given, applied
 use Rattle.cluster_machine.specs.World.{is_member_at, sent_bytes}
 use Rattle.cluster_machine.specs.Worlds.{Done as Effect, newest_at, does}
 use Rattle.store_model.specs.declared.event.Event.{Event}
-use Rattle.store_model.specs.declared.event.Event.TheVariants.{Trio, Block, Bucket, Role, Redundancy, Apply, Tick, Skew, Put, Get, Head, Delete, Copy, List as Keys, Deliver, Lose, Drain, Expire, Restart, Gossip, Ack, Sync, SyncAck, Clean, Work, Repair}
+use Rattle.store_model.specs.declared.event.Event.TheVariants.{Trio, Block, Bucket, Role, Redundancy, Apply, Tick, Skew, Put, Get, Head, Delete, Copy, List as Keys, Deliver, Lose, Drain, Expire, Restart, Gossip, Ack, Sync, SyncAck, Clean, Work, Repair, Collect}
 use Rattle.store_model.specs.declared.event.Numbered.{Numbered}
 use Rattle.store_model.specs.Run.{World, Moving, State}
 use Rattle.store_model.specs.Events.{Turn, events_of, outcome, after, run}
@@ -92,6 +92,7 @@ event_alike s (SyncAck n) c d differ = record { state = refl; go_on = λ h. h }
 event_alike s (Clean n) c d differ = record { state = refl; go_on = λ h. h }
 event_alike s (Work n) c d differ = record { state = refl; go_on = λ h. h }
 event_alike s (Repair n) c d differ = record { state = refl; go_on = λ h. h }
+event_alike s (Collect n) c d differ = record { state = refl; go_on = λ h. h }
 
 -- two turns of one event
 pub turn_alike : (s : State) (t u : Turn) → t.numbered ≡ u.numbered → DifferInCut t.choice u.choice →

@@ -68,6 +68,7 @@ all_past events st k (said.Nodes nodes ∷ saids) = past_all st st k (prints eve
 all_past events st k (said.Got m ∷ saids) = past_all st st k (prints events st (suc k) saids) (all_past events st (suc k) saids)
 all_past events st k (said.Sent m kind from to ∷ saids) = past_all st st k (prints events st (suc k) saids) (all_past events st (suc k) saids)
 all_past events st k (said.Synced n v ∷ saids) = past_all st st k (prints events st (suc k) saids) (all_past events st (suc k) saids)
+all_past events st k (said.Dropped n v ∷ saids) = past_all st st k (prints events st (suc k) saids) (all_past events st (suc k) saids)
 all_past events st k (said.Done q word answer ∷ saids) = past_all st st k (prints events st (suc k) saids) (all_past events st (suc k) saids)
 all_past events st k (said.Listed q count ∷ saids) = past_all st st k (prints events st (suc k) saids) (all_past events st (suc k) saids)
 all_past events st k (said.Key key version size ∷ saids) = past_all st st k (prints events st (suc k) saids) (all_past events st (suc k) saids)

@@ -22,7 +22,7 @@ use Rattle.cluster_machine.specs.Step.{most_versions, given, none_given, applied
 use Rattle.cluster_machine.specs.World.{is_member_at}
 use Rattle.cluster_machine.specs.Worlds.{Done as Effect, newest_at, comes_to_layout, does}
 use Rattle.store_model.specs.declared.event.Event.{Event}
-use Rattle.store_model.specs.declared.event.Event.TheVariants.{Trio, Block, Bucket, Role as Stage, Redundancy as Spread, Apply, Tick, Skew, Put, Get, Head, Delete, Copy, List as Keys, Deliver, Lose, Drain, Expire, Restart, Gossip, Ack, Sync, SyncAck, Clean, Work, Repair}
+use Rattle.store_model.specs.declared.event.Event.TheVariants.{Trio, Block, Bucket, Role as Stage, Redundancy as Spread, Apply, Tick, Skew, Put, Get, Head, Delete, Copy, List as Keys, Deliver, Lose, Drain, Expire, Restart, Gossip, Ack, Sync, SyncAck, Clean, Work, Repair, Collect}
 use Rattle.store_model.specs.declared.event.Numbered.{Numbered}
 use Rattle.store_model.specs.Run.{World, Moving, State}
 use Rattle.store_model.specs.Events.{Turn, outcome, outcome_of, after, events_of, run}
@@ -174,6 +174,7 @@ event_fixed s line (SyncAck n) c d o h k has = record { state = refl; told = λ 
 event_fixed s line (Clean n) c d o h k has = record { state = refl; told = λ line name. refl }
 event_fixed s line (Work n) c d o h k has = record { state = refl; told = λ line name. refl }
 event_fixed s line (Repair n) c d o h k has = record { state = refl; told = λ line name. refl }
+event_fixed s line (Collect n) c d o h k has = record { state = refl; told = λ line name. refl }
 
 module _ (ps : List Print) where
   turn_fixed : (s : State) (t u : Turn) → t.numbered ≡ u.numbered → IsGiven s t (print_at ps t.numbered.line) → IsGiven s u (print_at ps u.numbered.line) → HasPrint s t.numbered.event (print_at ps t.numbered.line) →

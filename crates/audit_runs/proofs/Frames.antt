@@ -11,7 +11,7 @@ use Rattle.wire_messages.specs.declared.phase.PhaseEnd.{PhaseEnd}
 use Rattle.cluster_machine.specs.declared.step.Step.{Step}
 use Rattle.cluster_machine.specs.declared.step.Step.TheVariants as step
 use Rattle.cluster_machine.specs.declared.step.Action.{Action}
-use Rattle.cluster_machine.specs.declared.step.Action.TheVariants.{Ack as RaiseAck, Sync as GoOn, SyncAck as RaiseSyncAck, Clean as CleanUp, Work as WorkOff, Repair as Mend}
+use Rattle.cluster_machine.specs.declared.step.Action.TheVariants.{Ack as RaiseAck, Sync as GoOn, SyncAck as RaiseSyncAck, Clean as CleanUp, Work as WorkOff, Repair as Mend, Collect as Gather}
 use Rattle.cluster_machine.specs.declared.step.Words.TheVariants.{One}
 use Rattle.cluster_machine.specs.declared.line.Line.TheVariants.{Ended as HasEnded}
 use Rattle.cluster_machine.specs.declared.line.EndWord.TheVariants.{Expired}
@@ -35,7 +35,7 @@ use Rattle.flow_model.specs.declared.flow.FlowStep.TheVariants.{More, Need, Wait
 use Rattle.flow_model.specs.Flow.{started}
 use Rattle.flow_model.specs.Next.{next}
 use Rattle.store_model.specs.declared.event.Event.{Event}
-use Rattle.store_model.specs.declared.event.Event.TheVariants.{Trio, Block, Bucket, Role, Redundancy, Apply, Tick, Skew, Put, Get, Head, Delete, Copy, List as Keys, Deliver, Lose, Drain, Expire, Restart, Gossip, Ack, Sync, SyncAck, Clean, Work, Repair}
+use Rattle.store_model.specs.declared.event.Event.TheVariants.{Trio, Block, Bucket, Role, Redundancy, Apply, Tick, Skew, Put, Get, Head, Delete, Copy, List as Keys, Deliver, Lose, Drain, Expire, Restart, Gossip, Ack, Sync, SyncAck, Clean, Work, Repair, Collect}
 use Rattle.store_model.specs.Orders.{buckets_of}
 use Rattle.store_model.specs.Run.{State, Asked, Draw, Outcome, Moving, plainly, doing, silent, refusal, are_buckets, phases, opened, begins, draws_of, takes, follows, follow, goes_on, effect, delivers, then_drains, drains}
 use Rattle.store_model.specs.Events.{object_bytes, outcome}
@@ -136,6 +136,7 @@ module _ (w : Model AnyRow) where
   step_keeps (step.Clean n) choice none = local_keeps n CleanUp
   step_keeps (step.Work n) choice none = local_keeps n WorkOff
   step_keeps (step.Repair n) choice none = acting_keeps n (not (is_member_at layouts w n)) (acts any_join words layouts n (clock w n) (w.nodes n) Mend)
+  step_keeps (step.Collect n) choice none = local_keeps n Gather
   step_keeps (step.Open n) choice none = opening_keeps n
   step_keeps (step.Phase q phase) choice none = beginning_keeps q phase (numbered w.requests q)
   step_keeps (step.Close q) choice none = closing_keeps q (numbered w.requests q)
@@ -232,3 +233,4 @@ event_stages s (SyncAck n) choice = doing_keeps s (plainly (step.SyncAck n)) tt 
 event_stages s (Clean n) choice = doing_keeps s (plainly (step.Clean n)) tt ∙ sym (nothing_staged_by (staged_in s) (Clean n) (outcome s (Clean n) choice).refused refl)
 event_stages s (Work n) choice = doing_keeps s (plainly (step.Work n)) tt ∙ sym (nothing_staged_by (staged_in s) (Work n) (outcome s (Work n) choice).refused refl)
 event_stages s (Repair n) choice = doing_keeps s (plainly (step.Repair n)) tt ∙ sym (nothing_staged_by (staged_in s) (Repair n) (outcome s (Repair n) choice).refused refl)
+event_stages s (Collect n) choice = doing_keeps s (plainly (step.Collect n)) tt ∙ sym (nothing_staged_by (staged_in s) (Collect n) (outcome s (Collect n) choice).refused refl)

@@ -11,7 +11,7 @@ use Rattle.cluster_machine.specs.Step.{given, none_given}
 use Rattle.cluster_machine.specs.Worlds.{newest_at, comes_to_layout}
 use Rattle.store_model.specs.declared.event.Event.{Event}
 use Rattle.store_model.specs.declared.event.Numbered.{Numbered}
-use Rattle.store_model.specs.declared.event.Event.TheVariants.{Trio, Block, Bucket, Role, Redundancy, Apply, Tick, Skew, Put, Get, Head, Delete, Copy, List as Keys, Deliver, Lose, Drain, Expire, Restart, Gossip, Ack, Sync, SyncAck, Clean, Work, Repair}
+use Rattle.store_model.specs.declared.event.Event.TheVariants.{Trio, Block, Bucket, Role, Redundancy, Apply, Tick, Skew, Put, Get, Head, Delete, Copy, List as Keys, Deliver, Lose, Drain, Expire, Restart, Gossip, Ack, Sync, SyncAck, Clean, Work, Repair, Collect}
 use Rattle.store_model.specs.Run.{State, start}
 use Rattle.store_model.specs.Acts.{IsLawfulAct}
 use Rattle.store_model.specs.Events.{Turn, act_of, after, events_of}
@@ -93,6 +93,7 @@ module _ (computed : PrintsAreComputed) where
   printed_lawful s (Clean n) c p allowed is so fine = (c, (differ_in_none c, (tt, tt, tt)))
   printed_lawful s (Work n) c p allowed is so fine = (c, (differ_in_none c, (tt, tt, tt)))
   printed_lawful s (Repair n) c p allowed is so fine = (c, (differ_in_none c, (tt, tt, tt)))
+  printed_lawful s (Collect n) c p allowed is so fine = (c, (differ_in_none c, (tt, tt, tt)))
 
   turn_lawful : (s : State) (t : Turn) (p : Option Print) → IsAllowed t.numbered.event → IsGiven s t p → IfSome p IsFine → HasLawful s t.numbered.event t.choice
   turn_lawful s t None allowed is fine = (t.choice, (differ_in_none t.choice, is))

@@ -7,7 +7,7 @@ use Rattle.layout_roles.specs.declared.redundancy.Redundancy.TheVariants.{AtLeas
 use Rattle.layout_roles.specs.Certificates.{IsRedundancy}
 use Rattle.cluster_machine.specs.declared.step.Words.TheVariants.{Empty, One, Idle, Two}
 use Rattle.store_model.specs.declared.event.Event.{Event}
-use Rattle.store_model.specs.declared.event.Event.TheVariants.{Trio, Block, Bucket, Role, Redundancy, Apply, Tick, Skew, Put, Get, Head, Delete, Copy, List as Keys, Deliver, Lose, Drain, Expire, Restart, Gossip, Ack, Sync, SyncAck, Clean, Work, Repair}
+use Rattle.store_model.specs.declared.event.Event.TheVariants.{Trio, Block, Bucket, Role, Redundancy, Apply, Tick, Skew, Put, Get, Head, Delete, Copy, List as Keys, Deliver, Lose, Drain, Expire, Restart, Gossip, Ack, Sync, SyncAck, Clean, Work, Repair, Collect}
 use Rattle.store_model.specs.declared.event.Numbered.{Numbered}
 use Rattle.text_model.specs.Grammar.{IsAllowed, name_of}
 use Rattle.audit_model.specs.declared.said.Told.{Told}
@@ -55,6 +55,7 @@ print_is_behind s k line (Some (SyncAck n)) told saids = tt
 print_is_behind s k line (Some (Clean n)) told saids = tt
 print_is_behind s k line (Some (Work n)) told saids = tt
 print_is_behind s k line (Some (Repair n)) told saids = tt
+print_is_behind s k line (Some (Collect n)) told saids = tt
 print_is_behind s k line (Some (Apply n)) (Refused refusal) saids = tt
 print_is_behind s k line (Some (Apply n)) (Accepted Empty) saids = tt
 print_is_behind s k line (Some (Apply n)) (Accepted (Idle a b)) saids = tt
@@ -70,6 +71,7 @@ print_is_behind s k line (Some (Apply node)) (Accepted (One number)) (said.Nodes
 print_is_behind s k line (Some (Apply node)) (Accepted (One number)) (said.Got m ∷ saids) = tt
 print_is_behind s k line (Some (Apply node)) (Accepted (One number)) (said.Sent m kind from to ∷ saids) = tt
 print_is_behind s k line (Some (Apply node)) (Accepted (One number)) (said.Synced n v ∷ saids) = tt
+print_is_behind s k line (Some (Apply node)) (Accepted (One number)) (said.Dropped n v ∷ saids) = tt
 print_is_behind s k line (Some (Apply node)) (Accepted (One number)) (said.Done q word answer ∷ saids) = tt
 print_is_behind s k line (Some (Apply node)) (Accepted (One number)) (said.Listed q count ∷ saids) = tt
 print_is_behind s k line (Some (Apply node)) (Accepted (One number)) (said.Key key version size ∷ saids) = tt
@@ -123,6 +125,7 @@ module _ (P : Staged → Type 0) (A : Event → Type 0) (keeps : (s : Staged) (e
     prints_keep s k (said.Got m ∷ saids) h = prints_keep s (suc k) saids h
     prints_keep s k (said.Sent m kind from to ∷ saids) h = prints_keep s (suc k) saids h
     prints_keep s k (said.Synced n v ∷ saids) h = prints_keep s (suc k) saids h
+    prints_keep s k (said.Dropped n v ∷ saids) h = prints_keep s (suc k) saids h
     prints_keep s k (said.Done q word answer ∷ saids) h = prints_keep s (suc k) saids h
     prints_keep s k (said.Listed q count ∷ saids) h = prints_keep s (suc k) saids h
     prints_keep s k (said.Key key version size ∷ saids) h = prints_keep s (suc k) saids h
@@ -159,6 +162,7 @@ redundancy_stays s (SyncAck n) allowed h = h
 redundancy_stays s (Clean n) allowed h = h
 redundancy_stays s (Work n) allowed h = h
 redundancy_stays s (Repair n) allowed h = h
+redundancy_stays s (Collect n) allowed h = h
 
 -- one to three zones, or as many as there are, are asked for wherever a layout is printed
 pub prints_meant : (events : List Numbered) (saids : List Said) → AllByRecursion (λ (e : Numbered). IsAllowed e.event) events → AllByRecursion (λ (p : Print). IsRedundancy p.staged.wanted) (all_prints events saids)

@@ -49,6 +49,7 @@ skip_others events st k (said.Nodes nodes ∷ others) rest h = skip_others event
 skip_others events st k (said.Got m ∷ others) rest h = skip_others events st (suc k) others rest h.1 ∙ ap (λ j. prints events st j rest) (one_more k (length others))
 skip_others events st k (said.Sent m kind from to ∷ others) rest h = skip_others events st (suc k) others rest h.1 ∙ ap (λ j. prints events st j rest) (one_more k (length others))
 skip_others events st k (said.Synced n v ∷ others) rest h = skip_others events st (suc k) others rest h.1 ∙ ap (λ j. prints events st j rest) (one_more k (length others))
+skip_others events st k (said.Dropped n v ∷ others) rest h = skip_others events st (suc k) others rest h.1 ∙ ap (λ j. prints events st j rest) (one_more k (length others))
 skip_others events st k (said.Done q word answer ∷ others) rest h = skip_others events st (suc k) others rest h.1 ∙ ap (λ j. prints events st j rest) (one_more k (length others))
 skip_others events st k (said.Listed q count ∷ others) rest h = skip_others events st (suc k) others rest h.1 ∙ ap (λ j. prints events st j rest) (one_more k (length others))
 skip_others events st k (said.Key key version size ∷ others) rest h = skip_others events st (suc k) others rest h.1 ∙ ap (λ j. prints events st j rest) (one_more k (length others))

@@ -14,9 +14,9 @@ use Rattle.cluster_machine.specs.declared.applied.Applied.{Applied}
 use Rattle.cluster_machine.specs.declared.line.Line.{Line}
 use Rattle.cluster_machine.specs.declared.line.Line.TheVariants.{Synced, Ended as HasEnded}
 use Rattle.cluster_machine.specs.declared.line.EndWord.TheVariants.{Expired, Restarted}
-use Rattle.cluster_machine.specs.declared.step.Action.TheVariants.{Ack as RaiseAck, Sync as GoOn, SyncAck as RaiseSyncAck, Clean as CleanUp, Work as WorkOff, Repair as Mend}
+use Rattle.cluster_machine.specs.declared.step.Action.TheVariants.{Ack as RaiseAck, Sync as GoOn, SyncAck as RaiseSyncAck, Clean as CleanUp, Work as WorkOff, Repair as Mend, Collect as Gather}
 use Rattle.cluster_machine.specs.declared.step.Step.{Step}
-use Rattle.cluster_machine.specs.declared.step.Step.TheVariants.{Trio, Role as Stage, Redundancy as Spread, Apply, Tick, Skew, Deliver, Lose, Expire, Restart, Gossip, Ack, Sync as Syncs, SyncAck, Clean, Work, Repair, Open, Phase as Begin, Close}
+use Rattle.cluster_machine.specs.declared.step.Step.TheVariants.{Trio, Role as Stage, Redundancy as Spread, Apply, Tick, Skew, Deliver, Lose, Expire, Restart, Gossip, Ack, Sync as Syncs, SyncAck, Clean, Work, Repair, Collect, Open, Phase as Begin, Close}
 use Rattle.cluster_machine.specs.declared.step.Refusal.TheVariants.{VersionTaken, VersionLimit, NotMember, Lost, AlreadyEnded}
 use Rattle.cluster_machine.specs.Layouts.{layouts, has_none}
 use Rattle.cluster_machine.specs.Node.{Call, Did, shows, quiet}
@@ -25,7 +25,7 @@ use Rattle.cluster_machine.specs.Receives.{receives}
 use Rattle.cluster_machine.specs.Acts.{Acted, acts}
 use Rattle.cluster_machine.specs.World.{Sent, Mark, Request, numbered, clock, is_member_at}
 use Rattle.cluster_machine.specs.Choices.{Decision}
-use Rattle.cluster_machine.specs.Step.{most_versions, given, none_given, nothing, refusal, only, sent_by, sent_from, sync_line, did, at_message, received, expires, closing, chosen, applies_at, trio_applies, acting, begun, beginning, effects}
+use Rattle.cluster_machine.specs.Step.{most_versions, given, none_given, nothing, refusal, only, sent_by, sent_from, sync_line, dropped_line, did, at_message, received, expires, closing, chosen, applies_at, trio_applies, acting, begun, beginning, effects}
 use Rattle.cluster_machine.specs.Trio.{trio, stage_trio}
 use Rattle.cluster_machine.specs.Worlds.{Done as Effect}
 use Rattle.store_model.specs.Run.{World}
@@ -52,6 +52,10 @@ synced_whole : (b : Bool) (n after : ℕ) → AreUnbroken (cond b [] (Synced n a
 synced_whole true n after = tt
 synced_whole false n after = (tt, tt)
 
+dropped_whole : (n : ℕ) (o : Option (ℕ × ℕ)) → AreUnbroken (dropped_line n o)
+dropped_whole n None = tt
+dropped_whole n (Some version) = (tt, tt)
+
 ended_whole : (qs : List ℕ) → AreUnbroken (map (λ q. HasEnded q Restarted) qs)
 ended_whole [] = tt
 ended_whole (q ∷ qs) = (tt, ended_whole qs)
@@ -68,7 +72,9 @@ module _ (w : World) where
   did_whole : (n : ℕ) (d : Did AnyRow Layout) → TellsWhole (did w n d)
   did_whole n d =
       let sends : List (Sent AnyRow Layout) = sent_by w n d.posts in
-      both_unbroken (sent_from (suc (length w.messages)) sends) (sync_line n (w.nodes n).view d.node.view) (sent_whole (suc (length w.messages)) sends) (synced_whole _ n _)
+      let sent : List (Line Applied) = sent_from (suc (length w.messages)) sends in
+      let last : List (Line Applied) = sync_line n (w.nodes n).view d.node.view in
+      both_unbroken (dropped_line n d.dropped) (sent ++ last) (dropped_whole n d.dropped) (both_unbroken sent last (sent_whole (suc (length w.messages)) sends) (synced_whole _ n _))
 
   message_whole : (f : Sent AnyRow Layout → Effect AnyRow) → ((s : Sent AnyRow Layout) → TellsWhole (f s)) → (o : Option (Sent AnyRow Layout)) (mark : Option Mark) → TellsWhole (at_message w f o mark)
   message_whole f each None mark = tt
@@ -138,6 +144,7 @@ module _ (w : World) where
   step_whole (Clean n) choice h = acting_whole n (has_none layouts (w.nodes n).view) (acts any_join words layouts n (clock w n) (w.nodes n) CleanUp)
   step_whole (Work n) choice h = acting_whole n (has_none layouts (w.nodes n).view) (acts any_join words layouts n (clock w n) (w.nodes n) WorkOff)
   step_whole (Repair n) choice h = acting_whole n (not (is_member_at layouts w n)) (acts any_join words layouts n (clock w n) (w.nodes n) Mend)
+  step_whole (Collect n) choice h = acting_whole n (has_none layouts (w.nodes n).view) (acts any_join words layouts n (clock w n) (w.nodes n) Gather)
   step_whole (Open n) choice h = opening_whole (is_member_at layouts w n) _ tt
   step_whole (Begin q phase) choice h = beginning_whole q phase (numbered w.requests q)
   step_whole (Close q) choice h = closing_whole q (numbered w.requests q)

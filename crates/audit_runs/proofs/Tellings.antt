@@ -40,6 +40,9 @@ kind_free kind.NotHere = refl
 kind_free kind.BlockGet = refl
 kind_free kind.Block = refl
 kind_free kind.NoBlock = refl
+kind_free kind.Tomb = refl
+kind_free kind.Tombed = refl
+kind_free kind.Forget = refl
 kind_free kind.Walk = refl
 kind_free kind.Same = refl
 kind_free kind.Differ = refl
@@ -187,6 +190,9 @@ line_is (line.Sent m k a b) h =
     (and_number (codes "sent" ++ number m ++ word (kind_text k) ++ number a) b (and_number (codes "sent" ++ number m ++ word (kind_text k)) a
     (free_both 10 (codes "sent" ++ number m) (word (kind_text k)) (and_number (codes "sent") m refl) (kind_free k)))) refl
 line_is (line.Synced n v) h = one_line (codes "synced" ++ number n ++ number v) (and_number (codes "synced" ++ number n) v (and_number (codes "synced") n refl)) refl
+line_is (line.Dropped n ts id) h =
+    one_line (codes "dropped" ++ number n ++ word (version_text (Some (ts, id))))
+    (free_both 10 (codes "dropped" ++ number n) (word (version_text (Some (ts, id)))) (and_number (codes "dropped") n refl) (version_free (Some (ts, id)))) refl
 line_is (line.Done q w version size md5) h =
     let first : List ℕ = codes "done" ++ number q ++ word (done_text w) in
     one_line (first ++ word (version_text version) ++ size_text size ++ digest_text md5)

@@ -57,6 +57,7 @@ is_other line (said.Nodes nodes) other says = tt
 is_other line (said.Got m) other says = tt
 is_other line (said.Sent m kind from to) other says = tt
 is_other line (said.Synced n v) other says = tt
+is_other line (said.Dropped n v) other says = tt
 is_other line (said.Done q word answer) other says = tt
 is_other line (said.Listed q count) other says = tt
 is_other line (said.Key key version size) other says = tt
@@ -95,6 +96,7 @@ name_free (event.SyncAck n) = (refl, refl)
 name_free (event.Clean n) = (refl, refl)
 name_free (event.Work n) = (refl, refl)
 name_free (event.Repair n) = (refl, refl)
+name_free (event.Collect n) = (refl, refl)
 
 pub no_spaces : (w : List ℕ) → Free 32 w → All (λ b. is_space b ≡ false) w
 no_spaces [] h = All-nil (λ b. is_space b ≡ false)
@@ -174,6 +176,7 @@ says_own e r more (said.Nodes nodes) small h is = absurd (let no : false ≡ tru
 says_own e r more (said.Got m) small h is = absurd (let no : false ≡ true = ap (λ ws. is_number (first_word ws)) is ∙ decimal_is_number e.line small in cc)
 says_own e r more (said.Sent m kind from to) small h is = absurd (let no : false ≡ true = ap (λ ws. is_number (first_word ws)) is ∙ decimal_is_number e.line small in cc)
 says_own e r more (said.Synced n v) small h is = absurd (let no : false ≡ true = ap (λ ws. is_number (first_word ws)) is ∙ decimal_is_number e.line small in cc)
+says_own e r more (said.Dropped n v) small h is = absurd (let no : false ≡ true = ap (λ ws. is_number (first_word ws)) is ∙ decimal_is_number e.line small in cc)
 says_own e r more (said.Done q word answer) small h is = absurd (let no : false ≡ true = ap (λ ws. is_number (first_word ws)) is ∙ decimal_is_number e.line small in cc)
 says_own e r more (said.Listed q count) small h is = absurd (let no : false ≡ true = ap (λ ws. is_number (first_word ws)) is ∙ decimal_is_number e.line small in cc)
 says_own e r more (said.Key key version size) small h is = absurd (let no : false ≡ true = ap (λ ws. is_number (first_word ws)) is ∙ decimal_is_number e.line small in cc)

@@ -14,7 +14,7 @@ use Rattle.history_model.specs.declared.record.Cause.{Cause}
 use Rattle.history_model.specs.declared.record.Record.TheVariants.{Ended}
 use Rattle.flow_model.specs.declared.order.Order.TheVariants as order
 use Rattle.store_model.specs.declared.event.Event.{Event}
-use Rattle.store_model.specs.declared.event.Event.TheVariants.{Trio, Block, Bucket, Role as Stage, Redundancy, Apply, Tick, Skew, Put, Get, Head, Delete, Copy, List as Keys, Deliver, Lose, Drain, Expire, Restart, Gossip, Ack, Sync, SyncAck, Clean, Work, Repair}
+use Rattle.store_model.specs.declared.event.Event.TheVariants.{Trio, Block, Bucket, Role as Stage, Redundancy, Apply, Tick, Skew, Put, Get, Head, Delete, Copy, List as Keys, Deliver, Lose, Drain, Expire, Restart, Gossip, Ack, Sync, SyncAck, Clean, Work, Repair, Collect}
 use Rattle.store_model.specs.declared.event.Numbered.{Numbered}
 use Rattle.store_model.specs.Run.{Moving, State, start, plainly, effect}
 use Rattle.store_model.specs.Acts.{IsLawfulAct, endings, plain}
@@ -22,6 +22,7 @@ use Rattle.store_model.specs.Events.{Turn, act_of, object_bytes, outcome, outcom
 use Rattle.store_model.specs.Turns.{AreLawful}
 use Rattle.text_model.specs.Grammar.{IsAllowed}
 use Rattle.text_model.specs.Played.{AllGoOn, ArePlayed, AreAllowed, steps_of, GoesOn}
+use Rattle.store_laws.proofs.Deeds.{Deed}
 use Rattle.store_laws.proofs.Every.{EveryWorld}
 use Rattle.store_laws.proofs.Sound.{IsSound}
 use Rattle.store_laws.proofs.Starting.{start_sound}
@@ -80,6 +81,7 @@ event_keyed s (SyncAck n) c allowed h = plain_keyed s (plainly (step.SyncAck n))
 event_keyed s (Clean n) c allowed h = plain_keyed s (plainly (step.Clean n)) h
 event_keyed s (Work n) c allowed h = plain_keyed s (plainly (step.Work n)) h
 event_keyed s (Repair n) c allowed h = plain_keyed s (plainly (step.Repair n)) h
+event_keyed s (Collect n) c allowed h = plain_keyed s (plainly (step.Collect n)) h
 
 -- ---- lines
 
@@ -103,7 +105,7 @@ given_whole s n c d whole differ lawful =
       | false ↦ none_whole c d differ
     ] lawful.2
 
-module _ {H : List ℕ → Type 0} (every : EveryWorld H) where
+module _ {H : Deed → Type 0} (every : EveryWorld H) where
   event_whole : (s : State) (e : Event) (c d : Decision) → AreWholeRoles s.world.roles → DifferInCut c d → IsLawfulAct s (act_of e d) → FitIn H s.world (outcome s e d).moves → IsSound H s → AreOfWholeKeys s.history → AreUnbroken (outcome s e c).lines
   event_whole s Trio c d whole differ lawful fits sound keyed = step_whole s.world step.Trio (plainly step.Trio).choice tt
   event_whole s (Block size) c d whole differ lawful fits sound keyed = tt
@@ -131,17 +133,18 @@ module _ {H : List ℕ → Type 0} (every : EveryWorld H) where
   event_whole s (Clean n) c d whole differ lawful fits sound keyed = step_whole s.world (step.Clean n) (plainly (step.Clean n)).choice tt
   event_whole s (Work n) c d whole differ lawful fits sound keyed = step_whole s.world (step.Work n) (plainly (step.Work n)).choice tt
   event_whole s (Repair n) c d whole differ lawful fits sound keyed = step_whole s.world (step.Repair n) (plainly (step.Repair n)).choice tt
+  event_whole s (Collect n) c d whole differ lawful fits sound keyed = step_whole s.world (step.Collect n) (plainly (step.Collect n)).choice tt
 
 -- ---- turns
 
 -- a state of such a run: what its invariant says, and that no key in its records and no staged zone holds a line feed
-record IsWhole (H : List ℕ → Type 0) (s : State) : Type 0 where
+record IsWhole (H : Deed → Type 0) (s : State) : Type 0 where
   pub sound : IsSound H s
   pub keyed : AreOfWholeKeys s.history
   pub zoned : AreWholeRoles s.world.roles
 
 -- nothing is hashed for walks that isn't among these strings: no law on digests is asked for
-abbrev pub Any : List ℕ → Type 0
+abbrev pub Any : Deed → Type 0
 Any x = ⊤
 
 module _ (stage : EventsStage) (every : EveryWorld Any) where

@@ -16,7 +16,7 @@ use Rattle.cluster_machine.specs.declared.step.Refusal.{Refusal}
 use Rattle.cluster_machine.specs.World.{new_role, staged}
 use Rattle.cluster_machine.specs.Trio.{zone, stage_trio}
 use Rattle.store_model.specs.declared.event.Event.{Event}
-use Rattle.store_model.specs.declared.event.Event.TheVariants.{Trio, Block, Bucket, Role as Stage, Redundancy, Apply, Tick, Skew, Put, Get, Head, Delete, Copy, List as Keys, Deliver, Lose, Drain, Expire, Restart, Gossip, Ack, Sync, SyncAck, Clean, Work, Repair}
+use Rattle.store_model.specs.declared.event.Event.TheVariants.{Trio, Block, Bucket, Role as Stage, Redundancy, Apply, Tick, Skew, Put, Get, Head, Delete, Copy, List as Keys, Deliver, Lose, Drain, Expire, Restart, Gossip, Ack, Sync, SyncAck, Clean, Work, Repair, Collect}
 use Rattle.text_model.specs.Grammar.{is_key_byte, is_key, IsAllowed}
 use Rattle.audit_model.specs.Printed.{Staged, stages}
 use Rattle.audit_runs.specs.Told.{stages_by}
@@ -139,6 +139,7 @@ stages_whole s (SyncAck n) allowed h = h
 stages_whole s (Clean n) allowed h = h
 stages_whole s (Work n) allowed h = h
 stages_whole s (Repair n) allowed h = h
+stages_whole s (Collect n) allowed h = h
 
 -- after an event, refused or not
 pub staged_stay_whole : (s : Staged) (e : Event) (r : Option (Refusal Cut)) → IsAllowed e → AreWholeRoles s.roles → AreWholeRoles (stages_by s e r).roles

@@ -36,11 +36,13 @@ ghost use Rattle.audit_runs.specs.Whole.{IsOtherLines, AreNumbered, IsUnbroken, 
 use layout_flow::light_cuts;
 use layout_roles::smaller_sizes;
 use object_schema::S3Schema;
+use prompt_laws::timely_turns_collect_safely;
 use store_anchors::promises_are_kept;
 use text_model::schedules_are_within_limits;
 use world_reads::{
-    every_installed_world_reads_what_was_kept, every_world_gives_windows,
-    every_world_has_kept_reads, every_world_is_sound, every_world_reads_stored_rows,
+    every_installed_world_reads_what_was_kept, every_world_collects_stored_objects,
+    every_world_gives_windows, every_world_has_kept_reads, every_world_is_sound,
+    every_world_reads_stored_rows, nothing_is_collected_without_collect,
 };
 
 /// A printed layout that is lawful for what is staged, its cut whatever light one, has the greatest partition size; and a layout
@@ -83,6 +85,7 @@ pub fn printed_turns_keep_promises()
 {
     printed_turns_are_played();
     promises_are_kept();
+    timely_turns_collect_safely();
 }
 
 /// So it is of the first turns of a schedule's events, after each step of which a replay goes on.
@@ -96,6 +99,7 @@ pub fn first_turns_keep_promises()
 {
     lawful_prints_are_greatest();
     promises_are_kept();
+    timely_turns_collect_safely();
 }
 
 /// A printed layout is one that can be given: so runs of the same events that are given the same prints lead to one state and
@@ -157,6 +161,8 @@ pub fn turns_tell_unbroken()
     every_world_reads_stored_rows::<S3Schema>();
     every_world_gives_windows::<S3Schema>();
     every_installed_world_reads_what_was_kept::<S3Schema>();
+    every_world_collects_stored_objects::<S3Schema>();
+    nothing_is_collected_without_collect::<S3Schema>();
 }
 
 /// So it is of the first turns of a schedule's events that are given lawful layouts which a transcript prints.

@@ -72,3 +72,4 @@ stages_in_range s (event.SyncAck n) allowed h = h
 stages_in_range s (event.Clean n) allowed h = h
 stages_in_range s (event.Work n) allowed h = h
 stages_in_range s (event.Repair n) allowed h = h
+stages_in_range s (event.Collect n) allowed h = h

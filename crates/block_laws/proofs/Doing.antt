@@ -13,13 +13,13 @@ use Rattle.quorum_model.specs.Answers.{first_two_at}
 use Rattle.quorum_model.specs.Window.{Window}
 use Rattle.quorum_model.specs.declared.range.RangeAnswer.{RangeAnswer}
 use Rattle.wire_messages.specs.declared.message.Message.{Message}
-use Rattle.wire_messages.specs.declared.message.Message.TheVariants.{Get, Row, Range, Rows, Store, Stored, Behind, NotHere, BlockGet, Block, NoBlock, Walk as AsksValue, Same as HasSame, Differ}
+use Rattle.wire_messages.specs.declared.message.Message.TheVariants.{Get, Row, Range, Rows, Store, Stored, Behind, NotHere, BlockGet, Block, NoBlock, Walk as AsksValue, Same as HasSame, Differ, Tomb, Tombed, Forget}
 use Rattle.wire_messages.specs.declared.message.Tag.{Tag}
 use Rattle.wire_messages.specs.declared.message.Tag.TheVariants.{Call as ForCall, Round as ForRound, Item as ForItem}
 use Rattle.wire_messages.specs.declared.phase.Phase.{Phase}
 use Rattle.wire_messages.specs.declared.phase.Phase.TheVariants.{Read, Range as Scans, Store as Keeps, Block as Fetches}
 use Rattle.cluster_machine.specs.declared.step.Action.{Action}
-use Rattle.cluster_machine.specs.declared.step.Action.TheVariants.{Ack as RaiseAck, Sync as GoOn, SyncAck as RaiseSyncAck, Clean, Work, Repair}
+use Rattle.cluster_machine.specs.declared.step.Action.TheVariants.{Ack as RaiseAck, Sync as GoOn, SyncAck as RaiseSyncAck, Clean, Work, Repair, Collect}
 use Rattle.cluster_machine.specs.declared.step.LocalEnd.{LocalEnd}
 use Rattle.cluster_machine.specs.Layouts.{Layouts, is_given, is_stored}
 use Rattle.cluster_machine.specs.Node.{Question, Scan, Present, resting, asking, scanning, storing, fetching, Call, Item, Part, Walk, Round, Mending, Node, Packet, says, shows, Did, quiet}
@@ -30,6 +30,7 @@ use Rattle.cluster_machine.specs.Rounds.{is_complete, value_here, children_here,
 use Rattle.cluster_machine.specs.Acts.{Acted, syncs, acts}
 use Rattle.cluster_machine.specs.Blocks.{IsBeside, CarriesBlocks, PacketCarriesBlocks, BringsBlocks, IsStocked}
 use Rattle.block_laws.proofs.Accepting.{accepts_all_node, sees_node, without_due_node}
+use Rattle.block_laws.proofs.Collecting.{Stocks, tomb_stocks, tombed_stocks, forget_stocks, collects_stocks}
 use Rattle.block_laws.proofs.Sending.{ArePosts, each_post, stores_posts, items_posts, starts_posts, after_posts}
 
 module _ (digest : List ℕ → List ℕ) {R : Type 0} {join : R → R → R} {s : Words R} (laws : Laws join s) {L : Type 0} (k : Layouts L) where
@@ -189,7 +190,11 @@ module _ (digest : List ℕ → List ℕ) {R : Type 0} {join : R → R → R} {s
     confirms_done : (id from : ℕ) (tag : Tag) → IsDone (confirms join s k id x from tag)
     confirms_done id from (ForCall request phase slot) = in_call phase (λ c. stored_came k x c slot from c.present) (call_at x.calls request) (λ c. stored_done c slot from c.present)
     confirms_done id from (ForRound number p) = round_done id from number p x.round
-    confirms_done id from (ForItem number) = record { node = record { proper = i.proper; items_need_none = items_came x.view from number x.items i.items_need_none; digests = i.digests; has = i.has }; posts = tt }
+    confirms_done id from (ForItem number) = record { node = record { proper = i.proper; items_need_none = items_came x.view from number x.items i.items_need_none; collections_need_none = i.collections_need_none; digests = i.digests; has = i.has }; posts = tt }
+
+    -- what a node does about collections
+    stocked_done : {id : ℕ} {d : Did R L} → Stocks digest laws k id x i d → IsDone d
+    stocked_done h = record { node = h.node; posts = h.posts }
 
     hears_done : (id now from : ℕ) (m : Message R) → CarriesBlocks digest s m → (hears join s k id now x from m).is_spelled ≡ true → IsDone (hears join s k id now x from m)
     hears_done id now from (Get request phase at table key) m e = here from request phase at (gives_row join s k x from request phase (row_at join s x.accepted table key)) (record { node = i; posts = (tt, tt) })
@@ -206,6 +211,9 @@ module _ (digest : List ℕ → List ℕ) {R : Type 0} {join : R → R → R} {s
     hears_done id now from (AsksValue tag named p table prefix hash) m e = compares_done id from tag named p table prefix hash
     hears_done id now from (HasSame tag table prefix) m e = walks_done id from tag table prefix None e
     hears_done id now from (Differ tag table prefix pairs) m e = walks_done id from tag table prefix (Some pairs) e
+    hears_done id now from (Tomb number round row) m e = stocked_done (tomb_stocks digest laws k id x i now from number round row m)
+    hears_done id now from (Tombed number round named) m e = stocked_done (tombed_stocks digest laws k id x i now from number round named)
+    hears_done id now from (Forget table key hash) m e = stocked_done (forget_stocks digest laws k id x i table key hash.0)
 
     pub receives_done : (id now from : ℕ) (p : Packet R L) → PacketCarriesBlocks digest s p → (receives join s k id now x from p).is_spelled ≡ true → IsDone (receives join s k id now x from p)
     receives_done id now from (says m) h e = hears_done id now from m h e
@@ -237,6 +245,7 @@ module _ (digest : List ℕ → List ℕ) {R : Type 0} {join : R → R → R} {s
     acts_done id now Repair e =
         let l = layout_at k.reading x.view (newest k.reading x.view) in
         record { node = i; posts = starts_posts digest laws k x (suc x.rounds) (walks_of join s x (other_nodes join s k id) (parts_of join s k id x l l)) }
+    acts_done id now Collect e = stocked_done (collects_stocks digest laws k id x i now)
 
     -- ---- a phase begins
 

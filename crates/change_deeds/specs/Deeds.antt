@@ -23,6 +23,7 @@ step_of action.SyncAck = step.SyncAck
 step_of action.Clean = step.Clean
 step_of action.Work = step.Work
 step_of action.Repair = step.Repair
+step_of action.Collect = step.Collect
 
 -- the step by which a role is staged
 abbrev pub staged_as : Role → Step AnyRow

@@ -11,7 +11,7 @@ use Rattle.view_model.specs.View.{newest, oldest}
 use Rattle.quorum_model.specs.Quorum.{is_kept, with_confirmation}
 use Rattle.quorum_model.specs.Answers.{first_two_at}
 use Rattle.wire_messages.specs.declared.message.Message.{Message}
-use Rattle.wire_messages.specs.declared.message.Message.TheVariants.{Get, Row, Range, Rows, Store, Stored, Behind, NotHere, BlockGet, Block, NoBlock, Walk as AsksValue, Same as HasSame, Differ}
+use Rattle.wire_messages.specs.declared.message.Message.TheVariants.{Get, Row, Range, Rows, Store, Stored, Behind, NotHere, BlockGet, Block, NoBlock, Walk as AsksValue, Same as HasSame, Differ, Tomb, Tombed, Forget}
 use Rattle.wire_messages.specs.declared.message.Tag.{Tag}
 use Rattle.wire_messages.specs.declared.message.Tag.TheVariants.{Call as ForCall, Round as ForRound, Item as ForItem}
 use Rattle.wire_messages.specs.declared.phase.Phase.{Phase}
@@ -120,6 +120,9 @@ module _ {R : Type 0} (join : R → R → R) (s : Words R) {L : Type 0} (k : Lay
   usual_left l sent (AsksValue tag named p table prefix hash) u = elim u [ ]
   usual_left l sent (HasSame tag table prefix) u = elim u [ ]
   usual_left l sent (Differ tag table prefix pairs) u = elim u [ ]
+  usual_left l sent (Tomb number round row) u = elim u [ ]
+  usual_left l sent (Tombed number round named) u = elim u [ ]
+  usual_left l sent (Forget table key hash) u = elim u [ ]
 
 module _ {R L : Type 0} (A C : Type 0) where
   -- each node's view and round are as they were, and no version is applied

@@ -32,7 +32,7 @@ pub(crate) enum Line<'a> {
         answer: &'a str,
         is_answered: bool,
     },
-    /// A line of a layout, a key that a list shows, or a value that a read of an item shows.
+    /// A line of a layout, a row that a node dropped by a collection, a key that a list shows, or a value that a read of an item shows.
     Other,
     /// Whether all finished reads are fresh, and how many pairs of a read and a write were looked at.
     Check {
@@ -43,12 +43,12 @@ pub(crate) enum Line<'a> {
     Last,
 }
 
-const KINDS: [&str; 15] = [
+const KINDS: [&str; 18] = [
     "get", "row", "range", "rows", "store", "stored", "behind", "nothere", "blockget", "block",
-    "noblock", "walk", "same", "differ", "view",
+    "noblock", "walk", "same", "differ", "tomb", "tombed", "forget", "view",
 ];
 
-const EVENTS: [&str; 29] = [
+const EVENTS: [&str; 30] = [
     "trio",
     "block",
     "bucket",
@@ -78,6 +78,7 @@ const EVENTS: [&str; 29] = [
     "clean",
     "work",
     "repair",
+    "collect",
 ];
 
 const REQUESTS: [&str; 9] = [
@@ -182,6 +183,7 @@ fn last(words: &[&str]) -> Option<Line<'static>> {
         ["end", events, requests, messages] if are_numbers(&[events, requests, messages]) => {
             Some(Line::Last)
         }
+        ["dropped", node, _] if are_numbers(&[node]) => Some(Line::Other),
         ["key", _, _, size] if are_numbers(&[size]) => Some(Line::Other),
         ["value", _, size, _] if are_numbers(&[size]) => Some(Line::Other),
         ["limit", "number"] => Some(Line::Last),

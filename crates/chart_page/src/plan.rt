@@ -11,9 +11,9 @@ pub(crate) struct Plan {
 }
 
 /// The events whose second word is their node.
-const AT_NODES: [&str; 19] = [
+const AT_NODES: [&str; 20] = [
     "apply", "skew", "put", "get", "head", "delete", "copy", "list", "kput", "kdel", "kget",
-    "restart", "gossip", "ack", "sync", "syncack", "clean", "work", "repair",
+    "restart", "gossip", "ack", "sync", "syncack", "clean", "work", "repair", "collect",
 ];
 
 /// Whether a line with these words is one of a schedule: of an event, a comment, or empty.

@@ -1,5 +1,5 @@
 -- What a node sends when a message comes to it is paid by the message's load.
-use Rattle.std.specs.Prelude.{◌≡◌, ◌≤◌, ◌<◌, ◌+◌, ◌*◌, ◌-◌, ℕ, suc, Bool, true, false, not, ◌==◌, nat_lt, cond, Option, Some, None, List, [], ◌∷◌, ◌++◌, length, map, filter, refl, ⊤}
+use Rattle.std.specs.Prelude.{◌≡◌, ◌≤◌, ◌<◌, ◌+◌, ◌*◌, ◌-◌, ℕ, suc, Bool, true, false, not, ◌==◌, ◌&&◌, nat_lt, cond, Option, Some, None, List, [], ◌∷◌, ◌++◌, length, map, filter, refl, ⊤}
 use Rattle.std.specs.List.{AllByRecursion, list_all}
 use Rattle.std.proofs.Common.{ap, sym, subst, inl, inr, arith}
 use Rattle.std.proofs.Math.Nat.{mul_comm, mul-suc, mul-le-mul}
@@ -12,23 +12,29 @@ use Rattle.table_schema.specs.Words.{Words}
 use Rattle.table_model.specs.Root.{every_byte}
 use Rattle.table_model.specs.Rows.{row_at, rows, range}
 use Rattle.view_model.specs.View.{newest}
+use Rattle.gc_model.specs.declared.collection.Collection.{Collection}
+use Rattle.gc_model.specs.declared.collection.GcEnd.{GcEnd}
+use Rattle.gc_model.specs.declared.collection.GcEnd.TheVariants.{Wait, Closed, Complete}
+use Rattle.gc_model.specs.Collecting.{Open, numbered as numbered_open, closed, answer_end, answered}
 use Rattle.walk_model.specs.Noting.{is_noted}
 use Rattle.walk_model.specs.Sets.{value_at}
 use Rattle.walk_model.specs.Walking.{is_open}
 use Rattle.walk_model.proofs.Bytes.{full, all_bytes}
 use Rattle.wire_messages.specs.declared.message.Message.{Message}
-use Rattle.wire_messages.specs.declared.message.Message.TheVariants.{Get, Row, Range, Rows, Store, Stored, Behind, NotHere, BlockGet, Block, NoBlock, Walk as AsksValue, Same as HasSame, Differ}
+use Rattle.wire_messages.specs.declared.message.Message.TheVariants.{Get, Row, Range, Rows, Store, Stored, Behind, NotHere, BlockGet, Block, NoBlock, Walk as AsksValue, Same as HasSame, Differ, Tomb, Tombed, Forget}
 use Rattle.wire_messages.specs.declared.message.Tag.{Tag}
 use Rattle.wire_messages.specs.declared.message.Tag.TheVariants.{Call as ForCall, Round as ForRound, Item as ForItem}
 use Rattle.cluster_machine.specs.Layouts.{Layouts, is_given, is_stored}
 use Rattle.cluster_machine.specs.Node.{Walk, Round, Mending, Node, Packet, says, shows, Post, Did, quiet}
-use Rattle.cluster_machine.specs.Phases.{is_spelled, call_at, row_came, rows_came, stored_came, block_came}
+use Rattle.cluster_machine.specs.Collects.{all_nodes, others, has_bytes, has_digest, forgets_row, drops_row, finishes, answered_to}
+use Rattle.cluster_machine.specs.Phases.{to_each, bytes_of, is_spelled, call_at, row_came, rows_came, stored_came, block_came}
 use Rattle.cluster_machine.specs.Rows.{same_bytes, block_at, accepts_all}
 use Rattle.cluster_machine.specs.Rounds.{rows_at, pairs_at, value_here, children_here, asked_after, walk_after, has_ended, is_walk, walk_at, asks_at, pushes_rows, sends_after, round_walks, mending_walks, at_walk, mending_came, with_mending, with_lasting, late_came, answer_came}
 use Rattle.cluster_machine.specs.Receives.{most_rows, answers, where_stored, gives_row, gives_rows, gives_block, compared, compares, round_came, walks_on, hears, receives}
 use Rattle.cluster_machine.proofs.Asked.{few_asked, asked_longer}
 use Rattle.machine_origins.proofs.Lists.{all_found}
 use Rattle.machine_limits.proofs.Totals.{total, total_same, total_times}
+use Rattle.drained_laws.proofs.Weights.{few_left}
 use Rattle.drained_laws.proofs.Replies.{IsQuiet, is_quiet, in_call, row_quiet, rows_quiet, stored_quiet, block_quiet}
 use Rattle.drain_limits.specs.Loads.{Keys, HasKeys, under, answer_load, tag_load, message_load, packet_load}
 use Rattle.drain_limits.proofs.Counting.{total_sum, under_parts}
@@ -69,6 +75,11 @@ module _ (keys : Keys) {R L : Type 0} where
   either : (i : ℕ) (b : Bool) (d e : Did R L) → IsPaid i d → IsPaid i e → IsPaid i (cond b d e)
   either i true d e h g = h
   either i false d e h g = g
+
+-- one message to each of these nodes, after which nothing follows
+each_paid : (keys : Keys) {R : Type 0} (L : Type 0) (m : Message R) → message_load keys m ≡ 0 → (nodes : List ℕ) → length (to_each {L = L} nodes m) + posts_load keys (to_each {L = L} nodes m) ≡ length nodes
+each_paid keys L m e [] = refl
+each_paid keys L m e (n ∷ nodes) = let rest : length (to_each {L = L} nodes m) + posts_load keys (to_each {L = L} nodes m) ≡ length nodes = each_paid keys L m e nodes in omega (arith, e, rest)
 
 module _ {R : Type 0} (join : R → R → R) (s : Words R) {L : Type 0} (k : Layouts L) (keys : Keys) (y : Node R L) (known : HasKeys join s keys y) where
   -- a push and its answer
@@ -196,6 +207,30 @@ module _ {R : Type 0} (join : R → R → R) (s : Words R) {L : Type 0} (k : Lay
   confirms_paid (ForRound number p) = round_paid number p y.round
   confirms_paid (ForItem number) = omega arith
 
+  -- ---- collections
+
+  forgotten_paid : (table : ℕ) (key : List ℕ) (test : R → Bool) (o : Option R) → IsPaid keys 0 (forgets_row join s y table key test o)
+  forgotten_paid table key test None = omega arith
+  forgotten_paid table key test (Some r) = either keys 0 (test r) _ (quiet y) (omega arith) (omega arith)
+
+  -- the others are told to forget a row
+  dropped_paid : (o : Open) (c : Collection) (row : Option R) → IsPaid keys 16 (drops_row join s id (record y { gc = o }) c row)
+  dropped_paid o c None = omega arith
+  dropped_paid o c (Some r) =
+      let m : Message R = Forget 1 c.key (record { 0 = blake2b 32 (bytes_of s r) }) in
+      let each : length (to_each {L = L} (others id) m) + posts_load keys (to_each {L = L} (others id) m) ≡ length (others id) = each_paid keys L m refl (others id) in
+      let few : length (others id) ≤ 16 = few_left (λ n. not (n == id)) all_nodes in
+      omega (arith, each, few)
+
+  finished_paid : (o : Option Collection) → IsPaid keys 16 (finishes join s k id y o)
+  finished_paid None = omega arith
+  finished_paid (Some c) = either keys 16 ((newest k.reading y.view == c.newest) && has_bytes join s c.row (row_at join s y.accepted 1 c.key)) _ _ (dropped_paid (closed c.number y.gc) c (row_at join s y.accepted 1 c.key)) (omega arith)
+
+  tombed_paid : (number round : ℕ) (o : Open) (e : GcEnd) → IsPaid keys 16 (answered_to join s k id y number round o e)
+  tombed_paid number round o Wait = omega arith
+  tombed_paid number round o Closed = omega arith
+  tombed_paid number round o Complete = either keys 16 (round == 2) _ _ (finished_paid (numbered_open number y.gc)) (omega arith)
+
   hears_paid : (m : Message R) → IsPaid keys (message_load keys m) (hears join s k id now y from m)
   hears_paid (Get request phase at table key) = where_paid request phase at (gives_row join s k y from request phase (row_at join s y.accepted table key)) (omega arith)
   hears_paid (Row request phase row) = quiet_paid keys y _ 0 (in_call (IsQuiet y) y phase (λ c. row_came join y c from row c.present) (call_at y.calls request) (is_quiet y) (λ c. row_quiet join s k y c from row c.present))
@@ -214,6 +249,9 @@ module _ {R : Type 0} (join : R → R → R) (s : Words R) {L : Type 0} (k : Lay
   hears_paid (AsksValue tag named p table prefix hash) = compared_paid tag named p table prefix hash
   hears_paid (HasSame tag table prefix) = walks_paid tag table prefix None
   hears_paid (Differ tag table prefix pairs) = walks_paid tag table prefix (Some pairs)
+  hears_paid (Tomb number round row) = omega arith
+  hears_paid (Tombed number round named) = tombed_paid number round (answered number round from named now y.gc) (answer_end number round from named y.gc)
+  hears_paid (Forget table key hash) = forgotten_paid table key (has_digest join s hash.0) (row_at join s y.accepted table key)
 
   pub receives_paid : (p : Packet R L) → IsPaid keys (packet_load keys p) (receives join s k id now y from p)
   receives_paid (says m) = hears_paid m

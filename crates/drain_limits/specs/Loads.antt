@@ -4,7 +4,7 @@ use Rattle.std.specs.List.{AllByRecursion, starts_with}
 use Rattle.crdt_core.specs.Members.{Has}
 use Rattle.table_schema.specs.Words.{Words}
 use Rattle.wire_messages.specs.declared.message.Message.{Message}
-use Rattle.wire_messages.specs.declared.message.Message.TheVariants.{Get, Range, Store, BlockGet, Walk, Same, Differ}
+use Rattle.wire_messages.specs.declared.message.Message.TheVariants.{Get, Range, Store, BlockGet, Walk, Same, Differ, Tomb, Tombed}
 use Rattle.wire_messages.specs.declared.message.Tag.{Tag}
 use Rattle.wire_messages.specs.declared.message.Tag.TheVariants.{Round as ForRound}
 use Rattle.cluster_machine.specs.Node.{Node, Packet, says, shows}
@@ -33,7 +33,7 @@ module _ (keys : Keys) where
   tag_load (ForRound number p) table prefix = answer_load prefix (keys p table)
   tag_load tag table prefix = 0
 
-  -- of a message: an answer to each question, and what follows an answer to a walk
+  -- of a message: an answer to each question, and what follows an answer to a walk; a tombstone is confirmed, and the confirmation may bring that each other node forgets the row
   abbrev pub message_load : {R : Type 0} → Message R → ℕ
   message_load (Get request phase at table key) = 1
   message_load (Range request phase at bucket prefix after) = 1
@@ -42,6 +42,8 @@ module _ (keys : Keys) where
   message_load (Walk tag named p table prefix hash) = suc (tag_load tag table prefix)
   message_load (Same tag table prefix) = tag_load tag table prefix
   message_load (Differ tag table prefix pairs) = tag_load tag table prefix
+  message_load (Tomb number round row) = 17
+  message_load (Tombed number round named) = 16
   message_load _ = 0
 
   module _ {R L : Type 0} where

@@ -104,6 +104,7 @@ opens_none s (step.SyncAck n) choice h = none_either _ _ _ refl refl
 opens_none s (step.Clean n) choice h = none_either _ _ _ refl refl
 opens_none s (step.Work n) choice h = none_either _ _ _ refl refl
 opens_none s (step.Repair n) choice h = none_either _ _ _ refl refl
+opens_none s (step.Collect n) choice h = none_either _ _ _ refl refl
 opens_none s (step.Phase q phase) choice h = none_begins s.world q phase (numbered s.world.requests q)
 opens_none s (step.Close q) choice h = none_closes s.world q (numbered s.world.requests q)
 opens_none s (step.Open n) choice h = absurd h

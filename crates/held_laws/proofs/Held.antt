@@ -50,6 +50,7 @@ use Rattle.store_laws.proofs.Hashing.{ActsIn}
 use Rattle.store_laws.proofs.Placing.{asks_is_step}
 use Rattle.store_laws.proofs.Rows.{IsDrawnIn}
 use Rattle.store_laws.proofs.Values.{one_name}
+use Rattle.store_laws.proofs.Deeds.{Deed}
 use Rattle.store_anchors.proofs.Cited.{Cited}
 use Rattle.serve_model.specs.Clusters.{Cluster}
 use Rattle.serve_model.specs.Plain.{Has, never, deleted, object, Entry, Plain, same_name, has_among, has_at, row_of, last_ts, version_in, IsMap}
@@ -128,7 +129,7 @@ pub record WasDrawn (draws : List Draw) (name : Name) (v : Version) : Type 0 whe
   pub name_is : draw.name ≡ name
   pub version_is : draw.version ≡ v
 
-module _ {H : List ℕ → Type 0} (cited : Cited H) (cited_rows : CitedRows) (acts : List Act) (lawful : AreLawfulActs start acts) (fit : ActsIn H start acts) (knows : KnowsRequests (after_acts start acts)) where
+module _ {H : Deed → Type 0} (cited : Cited H) (cited_rows : CitedRows) (acts : List Act) (lawful : AreLawfulActs start acts) (fit : ActsIn H start acts) (knows : KnowsRequests (after_acts start acts)) where
   abbrev s : State
   s = after_acts start acts
 
@@ -350,7 +351,7 @@ module _ {H : List ℕ → Type 0} (cited : Cited H) (cited_rows : CitedRows) (a
     }
 
 -- the same of a cluster in this state
-pub holds_so : {H : List ℕ → Type 0} → Cited H → CitedRows → (acts : List Act) → AreLawfulActs start acts → ActsIn H start acts → KnowsRequests (after_acts start acts) → (c : Cluster) (P : Plain) → c.run ≡ after_acts start acts → LooksLike c P → AreInTime c.run.world P → NoClash P.buckets → Holds c P
+pub holds_so : {H : Deed → Type 0} → Cited H → CitedRows → (acts : List Act) → AreLawfulActs start acts → ActsIn H start acts → KnowsRequests (after_acts start acts) → (c : Cluster) (P : Plain) → c.run ≡ after_acts start acts → LooksLike c P → AreInTime c.run.world P → NoClash P.buckets → Holds c P
 holds_so cited cited_rows acts lawful fit knows c P is looks in_time clear =
     let same : c ≡ record { run = after_acts start acts; ticked = c.ticked; members = c.members } = (λ i. record { run = is i; ticked = c.ticked; members = c.members }) in
     subst (λ (x : Cluster). Holds x P) (sym same)

@@ -37,6 +37,7 @@ use Rattle.store_laws.proofs.Once.{one_version, one_name}
 use Rattle.store_laws.proofs.Records.{is_in}
 use Rattle.store_laws.proofs.Rows.{complete_state, complete_row, IsOf, is_inherited}
 use Rattle.store_laws.proofs.Sound.{IsReachedBy}
+use Rattle.store_laws.proofs.Deeds.{Deed}
 use Rattle.store_anchors.proofs.Acts.{IsHeld, draws_apart, held}
 use Rattle.store_anchors.proofs.Cited.{Cited}
 use Rattle.store_anchors.proofs.Kept.{Past, IsRowOf, announces, gives_up, completes, names, refers, row_is_good}
@@ -107,7 +108,7 @@ written_says p r h = elim h [
   | refers d bytes c is ↦ subst SaysSome (sym is) tt
 ]
 
-module _ {H : List ℕ → Type 0} (cited : Cited H) (cited_rows : CitedRows) (acts : List Act) (lawful : AreLawfulActs start acts) (fit : ActsIn H start acts) where
+module _ {H : Deed → Type 0} (cited : Cited H) (cited_rows : CitedRows) (acts : List Act) (lawful : AreLawfulActs start acts) (fit : ActsIn H start acts) where
   abbrev pub s : State
   s = after_acts start acts
 

@@ -18,8 +18,9 @@ use machine_origins::every_node_has_stored_rows;
 use object_origins::{gone_versions_were_overwritten, rows_show_what_was_stored};
 use object_schema::S3Schema;
 use world_reads::{
-    every_installed_world_reads_what_was_kept, every_world_gives_windows,
-    every_world_has_kept_reads, every_world_is_sound, every_world_reads_stored_rows,
+    every_installed_world_reads_what_was_kept, every_world_collects_stored_objects,
+    every_world_gives_windows, every_world_has_kept_reads, every_world_is_sound,
+    every_world_reads_stored_rows, nothing_is_collected_without_collect,
 };
 
 /// A cluster to which lawful acts lead from nothing, with whatever layout was installed first, and which looks like one that
@@ -33,6 +34,8 @@ pub fn a_cluster_that_looks_like_a_map_holds_it()
     every_world_reads_stored_rows::<S3Schema>();
     every_world_gives_windows::<S3Schema>();
     every_installed_world_reads_what_was_kept::<S3Schema>();
+    every_world_collects_stored_objects::<S3Schema>();
+    nothing_is_collected_without_collect::<S3Schema>();
     every_block_phase_gives_its_block::<AnyRow, Layout, Applied, Cut>();
     every_node_has_its_blocks::<AnyRow, Layout, Applied, Cut>();
     every_node_has_stored_rows::<AnyRow, Layout, Applied, Cut>();

@@ -1,8 +1,9 @@
 //! Collections of delete markers, with ample memory: which nodes are waited for, and where answers lead.
 use crdt_core::Bytes;
+use gc_model::GcEnd;
 use std::alloc::Global;
 use std::test::Fail;
-use table_gc::{Collections, GcEnd};
+use table_gc::Collections;
 
 // A list with one collection by node 1, whose newest layout version is 5.
 fn with_one(alloc: Global) -> Result<Collections, Fail> {
@@ -135,5 +136,25 @@ fn collections_are_found_by_key_until_they_are_closed(rt: HostRuntime) -> Result
     let mut open = with_two(alloc)?;
     assert_eq!(rt; numbers_after_close(&mut open), ((1, 2), (0, 2)));
     assert_eq!(rt; numbers_after_clear(&mut open, alloc)?, ((0, 0), 3));
+    Ok(())
+}
+
+// The numbers of the first open collection with key "k", with two of them, after one is closed, and after both are.
+fn numbers_with_one_key(open: &mut Collections, alloc: Global) -> Result<(u64, u64, u64), Fail> {
+    begun(open, alloc, b"k")?;
+    let first = number_of(open, b"k");
+    open.close(2);
+    let second = number_of(open, b"k");
+    open.close(3);
+    Ok((first, second, number_of(open, b"k")))
+}
+
+#[test]
+fn two_collections_with_one_key_are_found_one_after_the_other(rt: HostRuntime) -> Result<(), Fail> {
+    let alloc = rt.alloc();
+    let mut open = with_two(alloc)?;
+    assert_eq!(rt; numbers_with_one_key(&mut open, alloc)?, (2, 3, 0));
+    assert!(rt; open.numbered(1).is_some());
+    assert!(rt; open.numbered(2).is_none());
     Ok(())
 }

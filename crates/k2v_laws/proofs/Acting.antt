@@ -13,7 +13,7 @@ use Rattle.cluster_machine.specs.declared.step.Step.TheVariants as step
 use Rattle.cluster_machine.specs.Layouts.{layouts}
 use Rattle.cluster_machine.specs.Trio.{trio, stage_trio}
 use Rattle.cluster_machine.specs.Hashes.{NoClash}
-use Rattle.cluster_machine.specs.Kept.{IsOver, KeptReads}
+use Rattle.cluster_machine.specs.Kept.{IsOver}
 use Rattle.table_model.specs.Rows.{row_at}
 use Rattle.cluster_machine.specs.Node.{Question, Present, resting, asking, scanning, storing as keeping, fetching, read, Ended}
 use Rattle.cluster_machine.specs.World.{numbered}
@@ -112,8 +112,7 @@ module _ {H : List ℕ → Type 0} (every : EveryWorld) where
     given_over clear p b row before there_b stage_is same =
         let own : IsEntry H s.requests s.world.kept p b = sound.entries p b there_b in
         let is : IsStage H s.requests s.world.kept p b (stored row) = subst (IsStage H s.requests s.world.kept p b) stage_is own.stage in
-        let kept : KeptReads row_join words s.world = reached_kept every s.requests s.world sound.reached clear in
-        let over = kept (read question given) there in
+        let over = reached_kept every s.requests s.world sound.reached clear (read question given) there in
         kept_under question.key question.kept given row (key_is_of row item (is.0.good.key_is ∙ same) ∙ sym asks.key) (asks.has p b row before there_b stage_is)
         (subst (λ t. IsOver row_join words given (row_at row_join words question.kept t question.key)) asks.table over)
 

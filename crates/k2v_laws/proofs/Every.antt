@@ -8,7 +8,7 @@ use Rattle.cluster_machine.specs.Layouts.{layouts}
 use Rattle.cluster_machine.specs.Trio.{trio, stage_trio}
 use Rattle.cluster_machine.specs.Node.{Reading}
 use Rattle.cluster_machine.specs.World.{empty}
-use Rattle.cluster_machine.specs.Kept.{KeptReads}
+use Rattle.cluster_machine.specs.Kept.{GaveKept, KeptReads}
 use Rattle.cluster_machine.specs.Keeping.{AreDifferent}
 use Rattle.cluster_machine.specs.Worlds.{IsLawfulRun, next, run, IsSound}
 use Rattle.machine_origins.specs.Origins.{ComesFrom, Gave, stored_by, stored_in}
@@ -25,12 +25,13 @@ use Rattle.k2v_laws.proofs.Grown.{Grows, good_later}
 use Rattle.k2v_laws.proofs.Hashing.{HashesIn, hashed_more}
 use Rattle.k2v_laws.proofs.Sound.{IsGoodRow, StoresGood, IsReached}
 
--- where no two strings that the steps hash for walks have one digest reads gave what was kept; and they gave only what was stored, and the world is sound
+-- where no two strings that the steps hash for walks have one digest reads gave what was kept; and they gave only what was stored, the world is sound, and nothing was collected
 pub record EveryWorld : Type 0 where
   pub kept_reads : (moves : List Moving) → IsLawfulRun row_join words empty moves → NoClash (RunHashes words row_join layouts trio stage_trio empty moves) → KeptReads row_join words (run row_join words empty moves)
   pub stored_rows : (moves : List Moving) → IsLawfulRun row_join words empty moves →
       (r : Reading K2vRow) → Contains (run row_join words empty moves).reads r → Gave words (ComesFrom row_join words (stored_in moves)) r
   pub is_sound : (moves : List Moving) → IsLawfulRun row_join words empty moves → IsSound (run row_join words empty moves)
+  pub nothing_collected : (moves : List Moving) → (run row_join words empty moves).collected ≡ []
 
 run_more : (w : World) (moves : List Moving) (m : Moving) → run row_join words w (moves ++ m ∷ []) ≡ next row_join words (run row_join words w moves) m
 run_more w [] m = refl
@@ -72,8 +73,11 @@ good_inherited H requests = record {
 }
 
 module _ {H : List ℕ → Type 0} (every : EveryWorld) (requests : List ItemRequest) (w : World) (r : IsReached H requests w) where
-  pub reached_kept : NoClash H → KeptReads row_join words w
-  reached_kept clear = subst (KeptReads row_join words) (sym r.is) (every.kept_reads r.moves r.lawful (clear_within _ H r.hashed clear))
+  pub reached_kept : NoClash H → (reading : Reading K2vRow) → Contains w.reads reading → GaveKept row_join words [] reading
+  reached_kept clear reading c =
+      let kept : KeptReads row_join words w = subst (KeptReads row_join words) (sym r.is) (every.kept_reads r.moves r.lawful (clear_within _ H r.hashed clear)) in
+      let none : w.collected ≡ [] = ap (λ (u : World). u.collected) r.is ∙ every.nothing_collected r.moves in
+      subst (λ (collected : List K2vRow). GaveKept row_join words collected reading) none (kept reading c)
 
   pub reached_good : (reading : Reading K2vRow) → Contains w.reads reading → Gave words (IsGoodRow H requests) reading
   reached_good reading c =

@@ -15,6 +15,7 @@ use k2v_schema::K2vSchema;
 pub use samples::{busy_and_unknown_token, concurrent_values};
 use world_reads::{
     every_world_has_kept_reads, every_world_is_sound, every_world_reads_stored_rows,
+    nothing_is_collected_without_markers,
 };
 
 /// Whatever comes, and whichever layouts are given, where no two strings that the run hashes for walks have one digest, and
@@ -41,4 +42,5 @@ pub fn items_keep_what_they_owe()
     every_world_has_kept_reads::<K2vSchema>();
     every_world_reads_stored_rows::<K2vSchema>();
     every_world_is_sound::<K2vSchema>();
+    nothing_is_collected_without_markers::<K2vSchema>();
 }

@@ -210,6 +210,7 @@ module _ (stays : StaysSound row_join words) where
     common_out (event.Clean n) choice single allowed lawful = moved (plainly (step.Clean n)) tt tt lawful
     common_out (event.Work n) choice single allowed lawful = moved (plainly (step.Work n)) tt tt lawful
     common_out (event.Repair n) choice single allowed lawful = moved (plainly (step.Repair n)) tt tt lawful
+    common_out (event.Collect n) choice single allowed lawful = moved (plainly (step.Collect n)) tt tt lawful
 
     event_out : (x : ItemEvent) (choice : Decision) → IsSingle x → IsAllowed x → IsLawfulAct s (act_of x choice) → Out (outcome s x choice)
     event_out (Common x) choice single allowed lawful = common_out x choice single allowed lawful
@@ -280,6 +281,7 @@ module _ (stays : StaysSound row_join words) where
   common_steps e s (event.Clean n) choice low r allowed lawful = single_steps (suc e) s _ (event_step e s low r (Common (event.Clean n)) choice tt allowed lawful)
   common_steps e s (event.Work n) choice low r allowed lawful = single_steps (suc e) s _ (event_step e s low r (Common (event.Work n)) choice tt allowed lawful)
   common_steps e s (event.Repair n) choice low r allowed lawful = single_steps (suc e) s _ (event_step e s low r (Common (event.Repair n)) choice tt allowed lawful)
+  common_steps e s (event.Collect n) choice low r allowed lawful = single_steps (suc e) s _ (event_step e s low r (Common (event.Collect n)) choice tt allowed lawful)
 
   turn_steps : (e : ℕ) (s : State) (x : ItemEvent) (choice : Decision) → e < 100000 → ReplayFits e s → IsAllowed x → IsLawfulAct s (act_of x choice) → TurnTaken e s x choice
   turn_steps e s (Common x) choice low r allowed lawful = common_steps e s x choice low r allowed lawful

@@ -192,6 +192,17 @@ rows_merged a b p q = by_key (item_cmp (item_key a) (item_key b))
 
 -- ---- all of it
 
+row_key : (r : K2vRow) → RowFits r → length (words.key r) ≤ 200
+row_key r f =
+    let a = length-append r.bucket.0 (field r.pk ++ r.sk) in
+    let b = length-append (field r.pk) r.sk in
+    let c = length-append (four (length r.pk)) r.pk in
+    let d = four_length (length r.pk) in
+    let e = block_length 32 r.bucket.0 f.0.0 in
+    let pk = f.0.2 in
+    let sk = f.0.4 in
+    omega (arith, a, b, c, d, e, pk, sk)
+
 no_block : (hash : List ℕ) (n : ℕ) → None ≡ Some hash → 27 ≤ n
 no_block hash n e = cc
 
@@ -202,6 +213,7 @@ rows_bounded = record {
   called_for = λ old r row same p q c. absurd (omega (arith, c.1));
   counts = row_counts;
   least = λ r f. let is = row_is r f.0.0 in omega (arith, is);
+  short_key = row_key;
   with_block = λ r hash f e. no_block hash (weight r) e;
   merged = λ a b same p q. let low = rows_merged a b p q in omega (arith, low);
   called_few = λ a b same p q. tt;

@@ -161,6 +161,7 @@ in_range (step.SyncAck n) meant = tt
 in_range (step.Clean n) meant = tt
 in_range (step.Work n) meant = tt
 in_range (step.Repair n) meant = tt
+in_range (step.Collect n) meant = tt
 in_range (step.Open n) meant = tt
 in_range (step.Phase q phase) meant = tt
 in_range (step.Close q) meant = tt
@@ -188,6 +189,7 @@ common_fine s (event.SyncAck n) choice lawful h = moves_fine s (plainly (step.Sy
 common_fine s (event.Clean n) choice lawful h = moves_fine s (plainly (step.Clean n)) lawful h
 common_fine s (event.Work n) choice lawful h = moves_fine s (plainly (step.Work n)) lawful h
 common_fine s (event.Repair n) choice lawful h = moves_fine s (plainly (step.Repair n)) lawful h
+common_fine s (event.Collect n) choice lawful h = moves_fine s (plainly (step.Collect n)) lawful h
 common_fine s e choice lawful h = h
 
 event_fine : (s : State) (e : ItemEvent) (choice : Decision) → IsLawfulAct s (act_of e choice) → IsFine s → IsFine (outcome s e choice).state
@@ -221,6 +223,7 @@ common_lawful s (event.SyncAck n) allowed h = (none_given VersionLimit, (tt, tt,
 common_lawful s (event.Clean n) allowed h = (none_given VersionLimit, (tt, tt, tt))
 common_lawful s (event.Work n) allowed h = (none_given VersionLimit, (tt, tt, tt))
 common_lawful s (event.Repair n) allowed h = (none_given VersionLimit, (tt, tt, tt))
+common_lawful s (event.Collect n) allowed h = (none_given VersionLimit, (tt, tt, tt))
 common_lawful s e allowed h = (none_given VersionLimit, tt)
 
 pub event_lawful : (s : State) (e : ItemEvent) → IsAllowed e → IsFine s → (choice : Decision) × IsLawfulAct s (act_of e choice)

@@ -60,6 +60,31 @@ const BUSY_TOLD: &[u8] = b"\
     6 kput refused NoSuchToken 9\n\
     end 6 2 6\n";
 
+/// Nodes collect, one that knows no layout, and one that has the row of a deleted item, two days old: it has no delete marker.
+const COLLECTIONS: &[u8] = b"\
+    collect 1\n\
+    trio\n\
+    bucket pics\n\
+    kdel 1 pics p s 0\n\
+    drain 100\n\
+    tick 86400000\n\
+    tick 86400000\n\
+    collect 1\n\
+    collect 4\n";
+
+const COLLECTIONS_TOLD: &[u8] = b"\
+    1 collect refused NotMember\n\
+    2 trio ok\n\
+    3 bucket ok\n\
+    4 kdel ok 1\n\
+    5 drain ok\n\
+    done 1 kdel 1/1\n\
+    6 tick ok\n\
+    7 tick ok\n\
+    8 collect ok 0 0\n\
+    9 collect refused NotMember\n\
+    end 9 1 12\n";
+
 #[test]
 fn k2v_concurrent_values(rt: HostRuntime) -> Result<(), Fail> {
     let (status, text) = told(rt.alloc(), CONCURRENT_VALUES)?;
@@ -73,6 +98,14 @@ fn k2v_busy_and_unknown_token(rt: HostRuntime) -> Result<(), Fail> {
     let (status, text) = told(rt.alloc(), BUSY_AND_UNKNOWN_TOKEN)?;
     assert_eq!(rt; status, Status::Done);
     assert_eq!(rt; text.as_slice(), BUSY_TOLD);
+    Ok(())
+}
+
+#[test]
+fn k2v_items_are_not_collected(rt: HostRuntime) -> Result<(), Fail> {
+    let (status, text) = told(rt.alloc(), COLLECTIONS)?;
+    assert_eq!(rt; status, Status::Done);
+    assert_eq!(rt; text.as_slice(), COLLECTIONS_TOLD);
     Ok(())
 }
 

@@ -62,6 +62,7 @@ common_read (event.SyncAck n) h = refl
 common_read (event.Clean n) h = refl
 common_read (event.Work n) h = refl
 common_read (event.Repair n) h = refl
+common_read (event.Collect n) h = refl
 
 candidate_back : (e : ItemEvent) → IsIn (range_of e) → is_allowed_kind e ≡ true → candidate (words_of e) ≡ Some e
 candidate_back (Common e) h kind = common_read e kind ∙ ap (option_map Common) (common_back e h)

@@ -34,6 +34,7 @@ common_act (event.SyncAck n) choice = moves (plainly (step.SyncAck n))
 common_act (event.Clean n) choice = moves (plainly (step.Clean n))
 common_act (event.Work n) choice = moves (plainly (step.Work n))
 common_act (event.Repair n) choice = moves (plainly (step.Repair n))
+common_act (event.Collect n) choice = moves (plainly (step.Collect n))
 common_act other choice = drain 0
 
 -- the act that an event is; an apply is given the choice

@@ -7,7 +7,7 @@ use Rattle.layout_roles.specs.declared.layout.Layout.{Layout}
 use Rattle.layout_roles.specs.declared.cut.Cut.{Cut}
 use Rattle.cluster_machine.specs.declared.applied.Applied.{Applied}
 use Rattle.cluster_machine.specs.declared.step.Step.{Step}
-use Rattle.cluster_machine.specs.declared.step.Step.TheVariants.{Trio, Role as Stage, Redundancy as Spread, Apply, Tick, Skew, Deliver, Lose, Expire, Restart, Gossip, Ack, Sync as Syncs, SyncAck, Clean, Work, Repair, Open, Phase as Begin, Close}
+use Rattle.cluster_machine.specs.declared.step.Step.TheVariants.{Trio, Role as Stage, Redundancy as Spread, Apply, Tick, Skew, Deliver, Lose, Expire, Restart, Gossip, Ack, Sync as Syncs, SyncAck, Clean, Work, Repair, Collect, Open, Phase as Begin, Close}
 use Rattle.cluster_machine.specs.declared.step.Action.{Action}
 use Rattle.cluster_machine.specs.declared.step.Action.TheVariants as action
 use Rattle.cluster_machine.specs.declared.step.Refusal.{Refusal}
@@ -86,6 +86,7 @@ ends_none s (SyncAck n) choice is = by_act s.world n _ action.SyncAck
 ends_none s (Clean n) choice is = by_act s.world n _ action.Clean
 ends_none s (Work n) choice is = by_act s.world n _ action.Work
 ends_none s (Repair n) choice is = by_act s.world n _ action.Repair
+ends_none s (Collect n) choice is = by_act s.world n _ action.Collect
 ends_none s (Open n) choice is = absurd is
 ends_none s (Begin q phase) choice is = absurd is
 ends_none s (Close q) choice is = absurd is
@@ -125,6 +126,7 @@ quiet_brings (SyncAck n) is = tt
 quiet_brings (Clean n) is = tt
 quiet_brings (Work n) is = tt
 quiet_brings (Repair n) is = tt
+quiet_brings (Collect n) is = tt
 quiet_brings (Open n) is = tt
 quiet_brings (Begin q phase) is = absurd is
 quiet_brings (Close q) is = tt

@@ -198,6 +198,7 @@ impl ItemWorld {
             Event::Clean(node) => self.plain(Step::Clean(*node)),
             Event::Work(node) => self.plain(Step::Work(*node)),
             Event::Repair(node) => self.plain(Step::Repair(*node)),
+            Event::Collect(node) => self.plain(Step::Collect(*node)),
             Event::Block(_)
             | Event::Put { .. }
             | Event::Get { .. }

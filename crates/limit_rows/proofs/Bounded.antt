@@ -1,13 +1,16 @@
 -- Rows that fit are bounded.
 use Rattle.std.specs.Prelude.{◌≡◌, ◌≤◌, ℕ, true, List, [], ◌∷◌, Some, option_map, length, map}
 use Rattle.std.specs.List.{AllByRecursion}
-use Rattle.std.proofs.Common.{ap, arith}
+use Rattle.std.proofs.Common.{ap, length-append, arith}
 use Rattle.blake2_hash.specs.declared.digest.Hash32.{Hash32}
 use Rattle.crdt_core.specs.declared.deletable.Deletable.TheVariants.{Deleted}
 use Rattle.crdt_rows.specs.declared.version.Version.{Version}
 use Rattle.crdt_rows.specs.declared.any_row.AnyRow.{AnyRow}
 use Rattle.crdt_rows.specs.declared.any_row.AnyRow.TheVariants as rows
 use Rattle.crdt_rows.specs.AnyRow.{any_join}
+use Rattle.row_codec.specs.Spelling.{eight}
+use Rattle.row_codec.specs.NumberLaws.{block_length}
+use Rattle.row_codec.proofs.ByteOrder.{eight_length}
 use Rattle.object_schema.specs.Triggers.{given_up, deleted_version, released, deleted_reference, triggered}
 use Rattle.object_schema.specs.Schema.{words}
 use Rattle.object_schema.specs.Laws.{schema_laws}
@@ -45,6 +48,12 @@ row_least v (rows.Object r) f = let w = object_weight r f.0.0 in omega arith
 row_least v (rows.Version r) f = let w = (version_weight r.id r.blocks).0 in omega arith
 row_least v (rows.Ref r) f = let w = ref_weight r f.0 in omega arith
 
+-- keys are short
+row_key : (v : Drawn) (r : AnyRow) → RowFits v r → length (words.key r) ≤ 200
+row_key v (rows.Object r) f = (let a = length-append r.bucket.0 r.key in let b = block_length 32 r.bucket.0 f.0.0 in let c = f.0.2 in omega arith)
+row_key v (rows.Version r) f = (let a = eight_length r.id in omega arith)
+row_key v (rows.Ref r) f = (let a = length-append r.hash.0 (eight r.id) in let b = block_length 32 r.hash.0 f.0 in let c = eight_length r.id in omega arith)
+
 -- a reference alone needs a block
 needy_least : (v : Drawn) (r : AnyRow) (hash : List ℕ) → RowFits v r → words.live_block r ≡ Some hash → 27 ≤ weight r
 needy_least v (rows.Object r) hash f e = absurd cc
@@ -58,6 +67,7 @@ rows_bounded facts t v within = record {
   called_for = (fits_rules facts t v within).called_for;
   counts = λ r f. ap (λ o. option_map length o) (fits_spelled t v within r f);
   least = row_least v;
+  short_key = row_key v;
   with_block = needy_least v;
   merged = λ a b same p q. merged_counts facts t v within a b same p q (joined_fits facts t v within a b same p q);
   called_few = λ a b same p q. triggered_small v a (any_join a b) (called_fit facts t v within a b same p q);

@@ -14,14 +14,14 @@ use Rattle.version_laws.proofs.Laws.{safe_at}
 use Rattle.layout_roles.specs.declared.role.Role.{Role}
 use Rattle.table_schema.specs.Words.{Words, partition_of}
 use Rattle.wire_messages.specs.declared.message.Message.{Message}
-use Rattle.wire_messages.specs.declared.message.Message.TheVariants.{Get, Row, Range, Rows, Store, Stored, Behind, NotHere, BlockGet, Block, NoBlock, Walk as AsksValue, Same as HasSame, Differ}
+use Rattle.wire_messages.specs.declared.message.Message.TheVariants.{Get, Row, Range, Rows, Store, Stored, Behind, NotHere, BlockGet, Block, NoBlock, Walk as AsksValue, Same as HasSame, Differ, Tomb, Tombed, Forget}
 use Rattle.wire_messages.specs.declared.message.Tag.TheVariants.{Call as ForCall, Round as ForRound, Item as ForItem}
 use Rattle.wire_messages.specs.declared.phase.Phase.{Phase}
 use Rattle.quorum_model.specs.Quorum.{is_among}
 use Rattle.cluster_machine.specs.declared.step.Step.{Step}
-use Rattle.cluster_machine.specs.declared.step.Step.TheVariants.{Trio, Role as Stage, Redundancy as Spread, Apply, Tick, Skew, Deliver, Lose, Expire, Restart, Gossip, Ack, Sync as Syncs, SyncAck, Clean, Work, Repair, Open, Phase as Begin, Close}
+use Rattle.cluster_machine.specs.declared.step.Step.TheVariants.{Trio, Role as Stage, Redundancy as Spread, Apply, Tick, Skew, Deliver, Lose, Expire, Restart, Gossip, Ack, Sync as Syncs, SyncAck, Clean, Work, Repair, Collect, Open, Phase as Begin, Close}
 use Rattle.cluster_machine.specs.declared.step.Action.{Action}
-use Rattle.cluster_machine.specs.declared.step.Action.TheVariants.{Ack as RaiseAck, Sync as GoOn, SyncAck as RaiseSyncAck, Clean as CleanUp, Work as WorkOff, Repair as Mend}
+use Rattle.cluster_machine.specs.declared.step.Action.TheVariants.{Ack as RaiseAck, Sync as GoOn, SyncAck as RaiseSyncAck, Clean as CleanUp, Work as WorkOff, Repair as Mend, Collect as Gather}
 use Rattle.cluster_machine.specs.declared.step.LocalEnd.TheVariants.{At, Idle}
 use Rattle.cluster_machine.specs.declared.step.Refusal.{Refusal}
 use Rattle.cluster_machine.specs.declared.step.Refusal.TheVariants.{VersionTaken, VersionLimit, NotMember, NoSuchMessage, Lost, NoSuchRequest, AlreadyEnded}
@@ -37,6 +37,7 @@ use Rattle.cluster_machine.specs.Run.{Move, IsLayout, IsChoice, next, run, IsRun
 use Rattle.machine_laws.specs.Follows.{Follows, IsShown, IsKnown, Controlled}
 use Rattle.machine_laws.proofs.Controls.{turned}
 use Rattle.machine_laws.proofs.Same.{SaysOnly, Unseen, same_self, unseen_quiet, said_to_each, unseen_hears, unseen_begins}
+use Rattle.machine_laws.proofs.Collecting.{unseen_tomb, unseen_tomb_came, unseen_forgets, unseen_collects}
 use Rattle.machine_laws.proofs.Turning.{stays, ack_turns, sync_ack_turns, clean_turns, view_turns}
 use Rattle.machine_laws.proofs.Requests.{close_turns, restart_turns, open_turns, gossip_turns}
 use Rattle.machine_laws.proofs.Rounding.{Goes, goes_unseen, confirmed_goes, again_goes, walks_goes, unseen_repairs, may_both, begun_goes}
@@ -109,6 +110,9 @@ module _ {R L A C : Type 0} (join : R → R → R) (s : Words R) (k : Layouts L)
   hears_goes w c n from (Differ (ForCall request phase slot) table prefix pairs) t = goes_unseen k partitions w c n _ t (unseen_hears join s k n (clock w n) (w.nodes n) from (Differ (ForCall request phase slot) table prefix pairs) (λ h. h))
   hears_goes w c n from (Differ (ForRound number p) table prefix pairs) t = walks_goes join s k partitions w c n from number p table prefix (Some pairs) t
   hears_goes w c n from (Differ (ForItem number) table prefix pairs) t = goes_unseen k partitions w c n _ t (unseen_hears join s k n (clock w n) (w.nodes n) from (Differ (ForItem number) table prefix pairs) (λ h. h))
+  hears_goes w c n from (Tomb number round row) t = goes_unseen k partitions w c n _ t (unseen_tomb join s k n (clock w n) (w.nodes n) from number round row)
+  hears_goes w c n from (Tombed number round named) t = goes_unseen k partitions w c n _ t (unseen_tomb_came join s k n (clock w n) (w.nodes n) from number round named)
+  hears_goes w c n from (Forget table key hash) t = goes_unseen k partitions w c n _ t (unseen_forgets join s (w.nodes n) table key hash.0)
 
   pub receives_goes : (w : World R L) (c : control.World L) (n from : ℕ) (p : Packet R L) → Controlled k partitions w c → IsShown c p → Goes {A = A} {C = C} k partitions w c (did w n (receives join s k n (clock w n) (w.nodes n) from p))
   receives_goes w c n from (says m) t h = hears_goes w c n from m t
@@ -154,6 +158,7 @@ module _ {R L A C : Type 0} (join : R → R → R) (s : Words R) (k : Layouts L)
   acts_goes w c n CleanUp reached t = record { steps = Turn.Clean n ∷ []; turns = clean_turns k partitions join s w c n (clock w n) t }
   acts_goes w c n WorkOff reached t = goes_unseen k partitions w c n _ t (unseen_works join s k (clock w n) (w.nodes n))
   acts_goes w c n Mend reached t = goes_unseen k partitions w c n _ t (unseen_repairs join s k n (w.nodes n))
+  acts_goes w c n Gather reached t = goes_unseen k partitions w c n _ t (unseen_collects join s k n (clock w n) (w.nodes n))
 
 module _ {L : Type 0} (k : Layouts L) (partitions : ℕ) where
   pub reached_all : (c : control.World L) (steps : List (Turn L)) → IsReached k.reading partitions c → IsReached k.reading partitions (turn_all k.reading partitions c steps)
@@ -274,6 +279,7 @@ module _ {R L A C : Type 0} (join : R → R → R) (s : Words R) (k : Layouts L)
   goes w c (Clean n) choice reached t is = local_goes w c n CleanUp reached t
   goes w c (Work n) choice reached t is = local_goes w c n WorkOff reached t
   goes w c (Repair n) choice reached t is = acting_goes w c n (not (is_member k (w.nodes n).view n)) (acts join s k n (clock w n) (w.nodes n) Mend) t (acts_goes join s k partitions w c n Mend reached t)
+  goes w c (Collect n) choice reached t is = local_goes w c n Gather reached t
   goes w c (Open n) choice reached t is = open_goes w c n t
   goes w c (Begin q p) choice reached t is = phase_goes w c q p (numbered w.requests q) t
   goes w c (Close q) choice reached t is = closing_goes join s k partitions w c q (numbered w.requests q) t

@@ -1,7 +1,8 @@
--- What a node's rows count: a row that is accepted adds no more than its bytes, the rows that it calls for among it; dropped partitions add nothing; and the rows of different partitions count no more than all.
-use Rattle.std.specs.Prelude.{◌≡◌, ◌≤◌, ◌+◌, ℕ, suc, Bool, true, false, ◌==◌, leb, cond, List, [], ◌∷◌, Option, Some, None, IsTrue, length, refl}
+-- What a node's rows count: a row that is accepted adds no more than its bytes, the rows that it calls for among it; dropped partitions and rows add nothing; and the rows of different partitions count no more than all.
+use Rattle.std.specs.Prelude.{◌≡◌, ◌≤◌, ◌+◌, ℕ, suc, Bool, true, false, not, ◌==◌, leb, cond, List, [], ◌∷◌, Option, Some, None, IsTrue, length, refl}
 use Rattle.std.specs.List.{AllByRecursion, filter, find}
 use Rattle.std.specs.Option.{unwrap_or}
+use Rattle.std.specs.Ordering.{is_eq}
 use Rattle.std.specs.declared.cmp.Ordering.{Ordering}
 use Rattle.std.specs.declared.cmp.Ordering.TheVariants.{Less, Equal, Greater}
 use Rattle.std.proofs.Common.{ap, sym, ◌∙◌, inl, inr, arith}
@@ -12,7 +13,7 @@ use Rattle.crdt_core.specs.Order.{option_join}
 use Rattle.crdt_core.proofs.Each.{all_weaker}
 use Rattle.table_schema.specs.Words.{Words, partition_at, partition_of}
 use Rattle.table_schema.specs.Laws.{Same}
-use Rattle.table_model.specs.Rows.{place, row_cmp, is_at, AllProper, row_at, merged_in, rows, find_row, rows_in}
+use Rattle.table_model.specs.Rows.{place, place_cmp, row_cmp, is_at, AllProper, row_at, merged_in, rows, find_row, rows_in}
 use Rattle.std.specs.Cmp.{tied_itself}
 use Rattle.table_model.proofs.RowLaws.{place_total, Above, Ascends, above_lower, none_above, joins, rows_ascend, row_found, rows_filter}
 use Rattle.cluster_machine.specs.Rows.{called_for}
@@ -90,14 +91,25 @@ module _ {R : Type 0} {join : R → R → R} {s : Words R} {P : R → Type 0} {w
       let g : calls before r ≡ length (called_for join s before (row_at join s (r ∷ older) (s.table r) (s.key r))) = ap (λ o. length (called_for join s before o)) (row_after r older) in
       omega arith
 
-  -- partitions that are dropped
-  pub dropped_counts : (stays : ℕ → Bool) (accepted : List R) → AllByRecursion Good accepted → load join s weight (filter (λ r. stays (partition_of s r)) accepted) ≤ load join s weight accepted
-  dropped_counts stays accepted all =
-      let test : R → Bool = λ r. stays (partition_of s r) in
-      let is = rows_filter bounded.laws test (λ a b same. ap (λ position. stays (partition_at position)) (bounded.laws.one_position a b same)) accepted (proper_of accepted all) in
+  -- rows that are dropped, where those of one place go together
+  kept_counts : (test : R → Bool) (accepted : List R) → ((a b : R) → Same s a b → test a ≡ test b) → AllByRecursion Good accepted → load join s weight (filter test accepted) ≤ load join s weight accepted
+  kept_counts test accepted alike all =
+      let is = rows_filter bounded.laws test alike accepted (proper_of accepted all) in
       let low = total_filter weight test (rows join s accepted) in
       let same : load join s weight (filter test accepted) ≡ total weight (filter test (rows join s accepted)) = ap (λ ys. total weight ys) is in
       omega arith
+
+  -- partitions that are dropped
+  pub dropped_counts : (stays : ℕ → Bool) (accepted : List R) → AllByRecursion Good accepted → load join s weight (filter (λ r. stays (partition_of s r)) accepted) ≤ load join s weight accepted
+  dropped_counts stays accepted all = kept_counts (λ r. stays (partition_of s r)) accepted (λ a b same. ap (λ position. stays (partition_at position)) (bounded.laws.one_position a b same)) all
+
+  -- a row that is dropped
+  pub without_counts : (table : ℕ) (key : List ℕ) (accepted : List R) → AllByRecursion Good accepted → load join s weight (filter (λ r. not (is_at s table key r)) accepted) ≤ load join s weight accepted
+  without_counts table key accepted all =
+      kept_counts (λ r. not (is_at s table key r)) accepted (λ a b same. ap (λ (p : ℕ × List ℕ). not (is_eq (place_cmp (table, key) p))) (place_same a b same)) all
+    where
+      place_same : (a b : R) → Same s a b → place s a ≡ place s b
+      place_same a b same = λ i. (same.table i, same.key i)
 
   -- a row that is there
   pub found_counts : (table : ℕ) (key : List ℕ) (accepted : List R) (r : R) → AllByRecursion Good accepted → row_at join s accepted table key ≡ Some r → weight r ≤ load join s weight accepted

@@ -59,7 +59,7 @@ module _ {R : Type 0} {join : R → R → R} {s : Words R} {P : R → Type 0} {w
     ends_by new (e ∷ f ∷ es) keeps reads one given fetched = absurd one
 
     -- what a message ends
-    pub receives_gives : AreDifferent x.calls → (t k : ℕ) → NodeFits join s weight t k x → (now from : ℕ) (p : Packet R Layout) → IsPacket join s P Short g from n p → AllFit (receives join s layouts n now x from p).ends
+    pub receives_gives : {sent : ℕ} → AreDifferent x.calls → (t k : ℕ) → NodeFits join s weight t k sent x → (now from : ℕ) (p : Packet R Layout) → IsPacket join s P Short g from n p → AllFit (receives join s layouts n now x from p).ends
     receives_gives differ t k f now from p is =
         let d = receives join s layouts n now x from p in
         let done = receives_done (rules_of bounded) Short layouts g count n x i now from p f.blocks is in

@@ -1,6 +1,7 @@
 pub mod Totals
 pub mod Contents
 pub mod Posts
+pub mod Collecting
 pub mod Nodes
 pub mod Worlds
 pub mod Weaker

@@ -115,8 +115,8 @@ module _ {R : Type 0} {join : R → R → R} {s : Words R} {P : R → Type 0} {w
     early = omega arith;
     sound = sound;
     asks = λ n q p. None;
-    rows = record { nodes = λ n. record { accepted = tt; items = tt; calls = tt }; messages = tt; later = λ n q p h. refl; reads = tt };
-    nodes = λ n. record { counted = omega arith; listed = omega arith; small = tt; rounds = omega arith; phases = tt; blocks = tt; round = tt };
+    rows = record { nodes = λ n. record { accepted = tt; items = tt; calls = tt; collections = tt }; messages = tt; later = λ n q p h. refl; reads = tt; collected = tt };
+    nodes = λ n. record { counted = omega arith; listed = omega arith; small = tt; rounds = omega arith; phases = tt; blocks = tt; collections = omega arith; round = tt };
     beside = tt;
     time = omega arith;
     skews = λ n. omega arith;

@@ -17,9 +17,9 @@ use Rattle.wire_messages.specs.Size.{plus, carried}
 use Rattle.wire_messages.specs.declared.phase.Phase.{Phase}
 use Rattle.cluster_machine.specs.declared.applied.Applied.{Applied}
 use Rattle.cluster_machine.specs.declared.step.Step.{Step}
-use Rattle.cluster_machine.specs.declared.step.Step.TheVariants.{Trio, Role as Stage, Redundancy as Spread, Apply, Tick, Skew, Deliver, Lose, Expire, Restart, Gossip, Ack, Sync as Syncs, SyncAck, Clean, Work, Repair, Open, Phase as Begin, Close}
+use Rattle.cluster_machine.specs.declared.step.Step.TheVariants.{Trio, Role as Stage, Redundancy as Spread, Apply, Tick, Skew, Deliver, Lose, Expire, Restart, Gossip, Ack, Sync as Syncs, SyncAck, Clean, Work, Repair, Collect, Open, Phase as Begin, Close}
 use Rattle.cluster_machine.specs.declared.step.Action.{Action}
-use Rattle.cluster_machine.specs.declared.step.Action.TheVariants.{Ack as RaiseAck, Sync as GoOn, SyncAck as RaiseSyncAck, Clean as CleanUp, Work as WorkOff, Repair as Mend}
+use Rattle.cluster_machine.specs.declared.step.Action.TheVariants.{Ack as RaiseAck, Sync as GoOn, SyncAck as RaiseSyncAck, Clean as CleanUp, Work as WorkOff, Repair as Mend, Collect as Gather}
 use Rattle.cluster_machine.specs.declared.step.Refusal.{Refusal}
 use Rattle.cluster_machine.specs.declared.step.Refusal.TheVariants.{VersionTaken, VersionLimit, NotMember, NoSuchMessage, Lost, NoSuchRequest, AlreadyEnded}
 use Rattle.cluster_machine.specs.declared.step.Words.{Words as Told}
@@ -45,16 +45,16 @@ use Rattle.machine_limits.specs.Bounds.{AreBounded}
 use Rattle.machine_limits.specs.Steps.{PhaseFits, StepFits, HasPlace}
 use Rattle.machine_limits.proofs.Contents.{rules_of}
 use Rattle.machine_limits.proofs.Posts.{Mail, mail_sent, costs_more, costs_one, ViewFits, SetsFit, spelled_so}
-use Rattle.machine_limits.proofs.Nodes.{Machine, mail_limit, NodeFits, DidFits, PacketBeside, Short, node_later, receives_fits, acts_fit, begins_fit}
+use Rattle.machine_limits.proofs.Nodes.{Machine, mail_limit, NodeFits, DidFits, PacketBeside, Short, node_later, node_more, receives_fits, acts_fit, begins_fit}
 
 module _ {R : Type 0} (join : R → R → R) (s : Words R) (P : R → Type 0) (weight : R → ℕ) where
-  -- a world after so many steps, in which so many bytes were delivered and at most so many were sent
+  -- a world after so many steps, in which so many bytes were delivered and at most so many were sent; no node began more collections than messages were sent
   pub record WorldFits (t k b : ℕ) (w : Model R) : Type 0 where
     pub early : t ≤ 16777216
     pub sound : IsSound w
     pub asks : Asks
     pub rows : origin.IsSound join s P Short asks w
-    pub nodes : (n : ℕ) → NodeFits join s weight t k (w.nodes n)
+    pub nodes : (n : ℕ) → NodeFits join s weight t k (length w.messages) (w.nodes n)
     pub beside : AllByRecursion (λ (m : Sent R Layout). PacketBeside m.packet) w.messages
     pub time : w.time ≤ t * 86400000
     pub skews : (n : ℕ) → w.skew_of n ≤ 3600000
@@ -140,7 +140,7 @@ MarksFit (Some mark) = (mark.1.is_delivered || mark.1.is_lost) ≡ true
 module _ {R : Type 0} (join : R → R → R) (s : Words R) (weight : R → ℕ) where
   -- what a step does leaves a world within the limits
   pub record StepKeeps (t k : ℕ) (w : Model R) (e : Done R) : Type 0 where
-    pub nodes : (n : ℕ) → NodeFits join s weight t k (unwrap_or (e.nodes n) (w.nodes n))
+    pub nodes : (n : ℕ) → NodeFits join s weight t k (length e.sends + length w.messages) (unwrap_or (e.nodes n) (w.nodes n))
     pub spelled : e.is_spelled ≡ true
     pub bytes : ℕ
     pub cost : sent_bytes s e.sends ≡ Some bytes
@@ -152,6 +152,10 @@ module _ {R : Type 0} (join : R → R → R) (s : Words R) (weight : R → ℕ) 
     pub applies : w.applied + e.applies ≤ 100
     pub marks : MarksFit e.marks
 
+sent_length : {R : Type 0} (w : Model R) (n : ℕ) (posts : List (Mail R)) → length (sent_by w n posts) ≡ length posts
+sent_length w n [] = refl
+sent_length w n (p ∷ posts) = ap suc (sent_length w n posts)
+
 sent_beside : {R : Type 0} (w : Model R) (n : ℕ) (posts : List (Mail R)) → AllByRecursion (λ (p : Mail R). PacketBeside p.packet) posts → AllByRecursion (λ (m : Sent R Layout). PacketBeside m.packet) (sent_by w n posts)
 sent_beside w n [] a = tt
 sent_beside w n (p ∷ posts) a = (a.0, sent_beside w n posts a.1)
@@ -161,16 +165,20 @@ module _ {R : Type 0} {join : R → R → R} {s : Words R} {P : R → Type 0} {w
     abbrev StepGood : Done R → Type 0
     StepGood e = StepKeeps join s weight (suc t) m w e
 
-    still_fits : (n : ℕ) → NodeFits join s weight (suc t) m (w.nodes n)
+    still_fits : (n : ℕ) → NodeFits join s weight (suc t) m (length w.messages) (w.nodes n)
     still_fits n = node_later t k (suc t) m (w.nodes n) (omega arith) grows (fits.nodes n)
 
-    one_fits : (n : ℕ) (x : Machine R) → NodeFits join s weight (suc t) m x → (j : ℕ) → NodeFits join s weight (suc t) m (unwrap_or (only n x j) (w.nodes j))
-    one_fits n x h j = elim (j == n) as (λ c. NodeFits join s weight (suc t) m (unwrap_or (cond c (Some x) None) (w.nodes j))) [ true ↦ h | false ↦ still_fits j ]
+    still_more : (n : ℕ) → NodeFits join s weight (suc t) m (0 + length w.messages) (w.nodes n)
+    still_more n = node_more (suc t) m (length w.messages) (0 + length w.messages) (w.nodes n) (omega arith) (still_fits n)
+
+    one_fits : (sent n : ℕ) (x : Machine R) → length w.messages ≤ sent → NodeFits join s weight (suc t) m sent x → (j : ℕ) → NodeFits join s weight (suc t) m sent (unwrap_or (only n x j) (w.nodes j))
+    one_fits sent n x more h j =
+        elim (j == n) as (λ c. NodeFits join s weight (suc t) m sent (unwrap_or (cond c (Some x) None) (w.nodes j))) [ true ↦ h | false ↦ node_more (suc t) m (length w.messages) sent (w.nodes j) more (still_fits j) ]
 
     -- nodes change, and nothing is sent
-    nodes_good : (e : Done R) → ((n : ℕ) → NodeFits join s weight (suc t) m (unwrap_or (e.nodes n) (w.nodes n))) → e.is_spelled ≡ true → e.sends ≡ [] → e.passes ≡ 0 → e.skews ≡ None → length e.opens ≤ 1 → w.applied + e.applies ≤ 100 → MarksFit e.marks → StepGood e
+    nodes_good : (e : Done R) → ((n : ℕ) → NodeFits join s weight (suc t) m (length w.messages) (unwrap_or (e.nodes n) (w.nodes n))) → e.is_spelled ≡ true → e.sends ≡ [] → e.passes ≡ 0 → e.skews ≡ None → length e.opens ≤ 1 → w.applied + e.applies ≤ 100 → MarksFit e.marks → StepGood e
     nodes_good e nodes spelled sends passes skews opens applies marks = record {
-      nodes = nodes;
+      nodes = λ n. node_more (suc t) m (length w.messages) (length e.sends + length w.messages) (unwrap_or (e.nodes n) (w.nodes n)) (omega arith) (nodes n);
       spelled = spelled;
       bytes = 0;
       cost = ap (λ xs. sent_bytes s xs) sends;
@@ -192,23 +200,28 @@ module _ {R : Type 0} {join : R → R → R} {s : Words R} {P : R → Type 0} {w
     nothing_good : StepGood (nothing w)
     nothing_good = nodes_good (nothing w) still_fits refl refl refl refl (omega arith) applied_low tt
 
-    one_good : (e : Done R) (n : ℕ) (x : Machine R) → NodeFits join s weight (suc t) m x → e.nodes ≡ only n x → e.is_spelled ≡ true → e.sends ≡ [] → e.passes ≡ 0 → e.skews ≡ None → length e.opens ≤ 1 → w.applied + e.applies ≤ 100 → MarksFit e.marks → StepGood e
-    one_good e n x h nodes = nodes_good e (λ j. subst (λ (f : ℕ → Option (Machine R)). NodeFits join s weight (suc t) m (unwrap_or (f j) (w.nodes j))) (sym nodes) (one_fits n x h j))
+    one_good : (e : Done R) (n : ℕ) (x : Machine R) → NodeFits join s weight (suc t) m (length w.messages) x → e.nodes ≡ only n x → e.is_spelled ≡ true → e.sends ≡ [] → e.passes ≡ 0 → e.skews ≡ None → length e.opens ≤ 1 → w.applied + e.applies ≤ 100 → MarksFit e.marks → StepGood e
+    one_good e n x h nodes = nodes_good e (λ j. subst (λ (f : ℕ → Option (Machine R)). NodeFits join s weight (suc t) m (length w.messages) (unwrap_or (f j) (w.nodes j))) (sym nodes) (one_fits (length w.messages) n x (omega arith) h j))
 
-    did_good : (n : ℕ) (d : Did R Layout) → DidFits join s weight (suc t) m d → StepGood (did w n d)
-    did_good n d h = record {
-      nodes = one_fits n d.node h.node;
-      spelled = h.spelled;
-      bytes = h.cost.bytes;
-      cost = mail_sent s w n d.posts ∙ h.cost.is;
-      few = h.cost.within;
-      beside = sent_beside w n d.posts h.beside;
-      passes = omega arith;
-      skews = fits.skews;
-      opens = omega arith;
-      applies = applied_low;
-      marks = tt;
-    }
+    did_good : (n : ℕ) (d : Did R Layout) → DidFits join s weight (suc t) m (length w.messages) d → StepGood (did w n d)
+    did_good n d h =
+        let same = sent_length w n d.posts in
+        let low = h.low in
+        let after : h.after ≤ length (sent_by w n d.posts) + length w.messages = omega (arith, same, low) in
+        let more : length w.messages ≤ length (sent_by w n d.posts) + length w.messages = omega arith in
+        record {
+          nodes = one_fits (length (sent_by w n d.posts) + length w.messages) n d.node more (node_more (suc t) m h.after (length (sent_by w n d.posts) + length w.messages) d.node after h.node);
+          spelled = h.spelled;
+          bytes = h.cost.bytes;
+          cost = mail_sent s w n d.posts ∙ h.cost.is;
+          few = h.cost.within;
+          beside = sent_beside w n d.posts h.beside;
+          passes = omega arith;
+          skews = fits.skews;
+          opens = omega arith;
+          applies = applied_low;
+          marks = tt;
+        }
 
     received_good : (i : ℕ) (e : Done R) → StepGood e → StepGood (received i e)
     received_good i e h = record { nodes = h.nodes; spelled = h.spelled; bytes = h.bytes; cost = h.cost; few = h.few; beside = h.beside; passes = h.passes; skews = h.skews; opens = h.opens; applies = h.applies; marks = refl }
@@ -227,27 +240,27 @@ module _ {R : Type 0} {join : R → R → R} {s : Words R} {P : R → Type 0} {w
     acting_good n c action =
         let a = acts join s layouts n (clock w n) (w.nodes n) action in
         by_test c (refusal w NotMember) _ (λ e. refused NotMember)
-        (λ e. worded_good (did w n a.did) _ (did_good n a.did (acts_fit bounded t fits.asks (length w.requests) n k m grows top (w.nodes n) (fits.rows.nodes n) (fits.nodes n) (view_of n) (clock w n) action)))
+        (λ e. worded_good (did w n a.did) _ (did_good n a.did (acts_fit bounded t (length w.messages) fits.asks (length w.requests) n k m grows top (w.nodes n) (fits.rows.nodes n) (fits.nodes n) (view_of n) (clock w n) action)))
 
     message_good : (f : Sent R Layout → Done R) (o : Option (Sent R Layout)) (mark : Option Mark) → ((x : Sent R Layout) → o ≡ Some x → StepGood (f x)) → StepGood (at_message w f o mark)
     message_good f None mark h = refused NoSuchMessage
     message_good f (Some x) None h = refused NoSuchMessage
     message_good f (Some x) (Some mark) h = by_test mark.is_lost (refusal w Lost) (f x) (λ e. refused Lost) (λ e. h x refl)
 
-    closed_node : (n q : ℕ) → NodeFits join s weight (suc t) m (closed q (w.nodes n))
+    closed_node : (n q : ℕ) → NodeFits join s weight (suc t) m (length w.messages) (closed q (w.nodes n))
     closed_node n q =
         let h = still_fits n in
-        record { counted = h.counted; listed = h.listed; small = h.small; rounds = h.rounds; phases = all_filter (λ (c : Call R). c.phases ≤ suc t) (λ (c : Call R). cond (c.request == q) false true) (w.nodes n).calls h.phases; blocks = h.blocks; round = h.round }
+        record { counted = h.counted; listed = h.listed; small = h.small; rounds = h.rounds; phases = all_filter (λ (c : Call R). c.phases ≤ suc t) (λ (c : Call R). cond (c.request == q) false true) (w.nodes n).calls h.phases; blocks = h.blocks; collections = h.collections; round = h.round }
 
-    appended_node : (n : ℕ) (l : Layout) → NodeFits join s weight (suc t) m (appends layouts (w.nodes n) l)
-    appended_node n l = let h = still_fits n in record { counted = h.counted; listed = h.listed; small = h.small; rounds = h.rounds; phases = h.phases; blocks = h.blocks; round = h.round }
+    appended_node : (n : ℕ) (l : Layout) → NodeFits join s weight (suc t) m (length w.messages) (appends layouts (w.nodes n) l)
+    appended_node n l = let h = still_fits n in record { counted = h.counted; listed = h.listed; small = h.small; rounds = h.rounds; phases = h.phases; blocks = h.blocks; collections = h.collections; round = h.round }
 
-    restarted_node : (n : ℕ) → NodeFits join s weight (suc t) m (restarts (w.nodes n))
+    restarted_node : (n : ℕ) → NodeFits join s weight (suc t) m (length w.messages) (restarts (w.nodes n))
     restarted_node n =
         let h = still_fits n in
         let listed : length (w.nodes n).items ≤ (w.nodes n).queued = h.listed in
         let same = unconfirmed_length (w.nodes n).items in
-        record { counted = h.counted; listed = omega arith; small = unconfirmed_all (w.nodes n).items h.small; rounds = h.rounds; phases = tt; blocks = h.blocks; round = tt }
+        record { counted = h.counted; listed = omega arith; small = unconfirmed_all (w.nodes n).items h.small; rounds = h.rounds; phases = tt; blocks = h.blocks; collections = h.collections; round = tt }
       where
         unconfirmed_all : (items : List (Item R)) → AllByRecursion (λ (item : Item R). weight item.row ≤ 64) items → AllByRecursion (λ (item : Item R). weight item.row ≤ 64) (map unconfirmed items)
         unconfirmed_all [] a = tt
@@ -257,13 +270,13 @@ module _ {R : Type 0} {join : R → R → R} {s : Words R} {P : R → Type 0} {w
         unconfirmed_length [] = refl
         unconfirmed_length (item ∷ items) = ap suc (unconfirmed_length items)
 
-    opened_node : (n q start : ℕ) → NodeFits join s weight (suc t) m (opened q start (w.nodes n))
-    opened_node n q start = let h = still_fits n in record { counted = h.counted; listed = h.listed; small = h.small; rounds = h.rounds; phases = (omega arith, h.phases); blocks = h.blocks; round = h.round }
+    opened_node : (n q start : ℕ) → NodeFits join s weight (suc t) m (length w.messages) (opened q start (w.nodes n))
+    opened_node n q start = let h = still_fits n in record { counted = h.counted; listed = h.listed; small = h.small; rounds = h.rounds; phases = (omega arith, h.phases); blocks = h.blocks; collections = h.collections; round = h.round }
 
     trio_good : w.applied < 1 → StepGood (trio_applies join s layouts trio stage_trio w)
     trio_good low =
         nodes_good (trio_applies join s layouts trio stage_trio w)
-        (λ n. elim (is_among n (layouts.reading.members trio)) as (λ c. NodeFits join s weight (suc t) m (unwrap_or (cond c (Some (appends layouts (w.nodes n) trio)) None) (w.nodes n))) [ true ↦ appended_node n trio | false ↦ still_fits n ])
+        (λ n. elim (is_among n (layouts.reading.members trio)) as (λ c. NodeFits join s weight (suc t) m (length w.messages) (unwrap_or (cond c (Some (appends layouts (w.nodes n) trio)) None) (w.nodes n))) [ true ↦ appended_node n trio | false ↦ still_fits n ])
         refl refl refl refl (omega arith) (omega arith) tt
 
     chosen_good : (n new : ℕ) (choice : Choice Layout Applied Cut) → w.applied < 100 → StepGood (chosen join s layouts trio stage_trio w n new choice)
@@ -297,7 +310,7 @@ module _ {R : Type 0} {join : R → R → R} {s : Words R} {P : R → Type 0} {w
     begun_good n q phase None e h = nothing_good
     begun_good n q phase (Some c) e h =
         let low = (all_found (λ (c : Call R). c.phases ≤ t) (λ (c : Call R). c.request == q) (w.nodes n).calls c (fits.nodes n).phases e).0 in
-        did_good n (begins s layouts w.kept (w.nodes n) c phase) (begins_fit bounded t fits.asks (length w.requests) n k m grows top (w.nodes n) (fits.rows.nodes n) (fits.nodes n) (view_of n) w.kept c phase low h)
+        did_good n (begins s layouts w.kept (w.nodes n) c phase) (begins_fit bounded t (length w.messages) fits.asks (length w.requests) n k m grows top (w.nodes n) (fits.rows.nodes n) (fits.nodes n) (view_of n) w.kept c phase low h)
 
     beginning_good : (q : ℕ) (phase : Phase R) (o : Option Request) → PhaseFits P weight phase → StepGood (beginning {A = Applied} {C = Cut} join s layouts trio stage_trio w q phase o)
     beginning_good q phase None h = nothing_good
@@ -308,9 +321,9 @@ module _ {R : Type 0} {join : R → R → R} {s : Words R} {P : R → Type 0} {w
     step_good (Stage n role) choice h room = nodes_good _ still_fits refl refl refl refl (omega arith) applied_low tt
     step_good (Spread r) choice h room = nodes_good _ still_fits refl refl refl refl (omega arith) applied_low tt
     step_good (Apply n) choice h room = applies_good n choice
-    step_good (Tick ms) choice h room = record { nodes = still_fits; spelled = refl; bytes = 0; cost = refl; few = omega arith; beside = tt; passes = h; skews = fits.skews; opens = omega arith; applies = applied_low; marks = tt }
+    step_good (Tick ms) choice h room = record { nodes = still_more; spelled = refl; bytes = 0; cost = refl; few = omega arith; beside = tt; passes = h; skews = fits.skews; opens = omega arith; applies = applied_low; marks = tt }
     step_good (Skew n ms) choice h room = record {
-      nodes = still_fits;
+      nodes = still_more;
       spelled = refl;
       bytes = 0;
       cost = refl;
@@ -325,7 +338,7 @@ module _ {R : Type 0} {join : R → R → R} {s : Words R} {P : R → Type 0} {w
     step_good (Deliver i) choice h room =
         message_good _ (numbered w.messages i) (numbered w.marks i)
         (λ x e. received_good i _ (did_good x.to _
-        (receives_fits bounded t fits.asks (length w.requests) x.to k m grows top (w.nodes x.to) (fits.rows.nodes x.to) (fits.nodes x.to) (view_of x.to) (clock w x.to) x.from x.packet
+        (receives_fits bounded t (length w.messages) fits.asks (length w.requests) x.to k m grows top (w.nodes x.to) (fits.rows.nodes x.to) (fits.nodes x.to) (view_of x.to) (clock w x.to) x.from x.packet
         (all_numbered (IsSent join s P Short fits.asks) w.messages i x fits.rows.messages e) (all_numbered (λ (m : Sent R Layout). PacketBeside m.packet) w.messages i x fits.beside e) (room x e))))
     step_good (Lose i) choice h room = message_good _ (numbered w.messages i) (numbered w.marks i) (λ x e. nodes_good _ still_fits refl refl refl refl (omega arith) applied_low refl)
     step_good (Expire q) choice h room = expires_good q (numbered w.requests q)
@@ -333,13 +346,14 @@ module _ {R : Type 0} {join : R → R → R} {s : Words R} {P : R → Type 0} {w
     step_good (Gossip from to) choice h room =
         let few = (view_of from).few in
         did_good from (record (quiet (w.nodes from)) { posts = record { to = to; packet = shows (w.nodes from).view } ∷ [] })
-        (record { node = still_fits from; spelled = refl; cost = costs_more _ (64 + 1600 * length (w.nodes from).view.layouts) mail_limit (costs_one (record { to = to; packet = shows (w.nodes from).view }) (64 + 1600 * length (w.nodes from).view.layouts) refl) (omega arith); beside = (tt, tt) })
+        (record { after = length w.messages; low = omega arith; node = still_fits from; spelled = refl; cost = costs_more _ (64 + 1600 * length (w.nodes from).view.layouts) mail_limit (costs_one (record { to = to; packet = shows (w.nodes from).view }) (64 + 1600 * length (w.nodes from).view.layouts) refl) (omega arith); beside = (tt, tt) })
     step_good (Ack n) choice h room = acting_good n (has_none layouts (w.nodes n).view) RaiseAck
     step_good (Syncs n) choice h room = acting_good n (has_none layouts (w.nodes n).view) GoOn
     step_good (SyncAck n) choice h room = acting_good n (has_none layouts (w.nodes n).view) RaiseSyncAck
     step_good (Clean n) choice h room = acting_good n (has_none layouts (w.nodes n).view) CleanUp
     step_good (Work n) choice h room = acting_good n (has_none layouts (w.nodes n).view) WorkOff
     step_good (Repair n) choice h room = acting_good n (not (is_member layouts (w.nodes n).view n)) Mend
+    step_good (Collect n) choice h room = acting_good n (has_none layouts (w.nodes n).view) Gather
     step_good (Open n) choice h room = opening_good n
     step_good (Begin q phase) choice h room = beginning_good q phase (numbered w.requests q) h
     step_good (Close q) choice h room = closing_good q (numbered w.requests q)
@@ -353,6 +367,8 @@ module _ {R : Type 0} {join : R → R → R} {s : Words R} {P : R → Type 0} {w
         let l = leads (rules_of bounded) Short layouts trio stage_trio Applied Cut fits.asks w fits.rows (λ n. (fits.nodes n).blocks) mv.step mv.choice stored placed in
         let sum : length (shut w.requests e.closes ++ e.opens) ≡ length (shut w.requests e.closes) + length e.opens = length-append (shut w.requests e.closes) e.opens in
         let same : length (shut w.requests e.closes) ≡ length w.requests = length_shut w.requests e.closes in
+        let both : length (w.messages ++ e.sends) ≡ length w.messages + length e.sends = length-append w.messages e.sends in
+        let count : length e.sends + length w.messages ≡ length (w.messages ++ e.sends) = omega (arith, both) in
         let opens = step.opens in
         let passes = step.passes in
         let time = fits.time in
@@ -365,7 +381,7 @@ module _ {R : Type 0} {join : R → R → R} {s : Words R} {P : R → Type 0} {w
             sound = sound;
             asks = l.asks;
             rows = led join s P Short fits.asks w e fits.rows step.spelled l;
-            nodes = step.nodes;
+            nodes = λ n. subst (λ sent. NodeFits join s weight (suc t) m sent (unwrap_or (e.nodes n) (w.nodes n))) count (step.nodes n);
             beside = all_append (λ (m : Sent R Layout). PacketBeside m.packet) w.messages e.sends fits.beside step.beside;
             time = omega arith;
             skews = step.skews;
@@ -397,10 +413,12 @@ module _ {R : Type 0} {join : R → R → R} {s : Words R} {P : R → Type 0} {w
             let x = fits.nodes n in
             let counted = x.counted in
             let rounds = x.rounds in
+            let begun = x.collections in
             record {
               spelled = All-from_recursion (λ (item : Item R). IsTrue (is_spelled s item.row)) (w.nodes n).items (all_weaker (λ (item : Item R). P item.row) (λ (item : Item R). IsTrue (is_spelled s item.row)) (λ item h. spelled_so bounded item.row h) (w.nodes n).items (fits.rows.nodes n).items);
               queued = omega arith;
               rounds = omega arith;
+              collections = omega arith;
               phases = all_weaker (λ (c : Call R). c.phases ≤ t) (λ (c : Call R). c.phases < 2 ^ 32) (λ c h. omega arith) (w.nodes n).calls x.phases;
             },
       )

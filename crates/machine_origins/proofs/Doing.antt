@@ -10,11 +10,11 @@ use Rattle.blake2_hash.specs.declared.digest.Hash32.{Hash32}
 use Rattle.table_schema.specs.Words.{Words}
 use Rattle.table_model.specs.Rows.{row_at}
 use Rattle.wire_messages.specs.declared.message.Message.{Message}
-use Rattle.wire_messages.specs.declared.message.Message.TheVariants.{Get, Row, Range, Rows, Store, Stored, Behind, NotHere, BlockGet, Block, NoBlock, Walk as AsksValue, Same as HasSame, Differ}
+use Rattle.wire_messages.specs.declared.message.Message.TheVariants.{Get, Row, Range, Rows, Store, Stored, Behind, NotHere, BlockGet, Block, NoBlock, Walk as AsksValue, Same as HasSame, Differ, Tomb, Tombed, Forget}
 use Rattle.wire_messages.specs.declared.message.Tag.{Tag}
 use Rattle.wire_messages.specs.declared.message.Tag.TheVariants.{Call as ForCall, Round as ForRound, Item as ForItem}
 use Rattle.cluster_machine.specs.declared.step.Action.{Action}
-use Rattle.cluster_machine.specs.declared.step.Action.TheVariants.{Ack as RaiseAck, Sync as GoOn, SyncAck as RaiseSyncAck, Clean, Work, Repair}
+use Rattle.cluster_machine.specs.declared.step.Action.TheVariants.{Ack as RaiseAck, Sync as GoOn, SyncAck as RaiseSyncAck, Clean, Work, Repair, Collect}
 use Rattle.cluster_machine.specs.declared.step.LocalEnd.{LocalEnd}
 use Rattle.cluster_machine.specs.Layouts.{Layouts, is_given, is_stored}
 use Rattle.cluster_machine.specs.Node.{Call, Item, Part, Walk, Round, Mending, Node, Packet, says, shows, Did, quiet}
@@ -29,6 +29,7 @@ use Rattle.machine_origins.proofs.Lists.{all_found}
 use Rattle.machine_origins.proofs.Good.{IsFound, Rules, row_found}
 use Rattle.machine_origins.proofs.Sound.{for_row, for_block, Asks, AnswersTo, GivesTo, IsMessage, IsPacket, IsCall, IsNode, IsDone, AreBlocks}
 use Rattle.machine_origins.proofs.Accepting.{accepts_all_node, sees_node}
+use Rattle.machine_origins.proofs.Gathering.{forget_done, tombed_done, tomb_done, collects_done}
 use Rattle.machine_origins.proofs.Sending.{items_posts, starts_posts, after_posts}
 use Rattle.machine_origins.proofs.FollowingCalls.{found_there}
 use Rattle.machine_origins.proofs.Calls.{still, stored_done, block_done, row_done, rows_done}
@@ -48,8 +49,8 @@ module _ {R : Type 0} {join : R → R → R} {s : Words R} {P : R → Type 0} (r
 
   goes_done : (x : Node R L) (round : Round) → Sound x → Sound (goes_on join s k n x round)
   goes_done x round i = elim (is_complete round) as (λ b. Sound (cond b (synced join s k n x round) (record x { round = Some round }))) [
-    | true ↦ record { accepted = i.accepted; items = i.items; calls = i.calls }
-    | false ↦ record { accepted = i.accepted; items = i.items; calls = i.calls }
+    | true ↦ record { accepted = i.accepted; items = i.items; calls = i.calls; collections = i.collections }
+    | false ↦ record { accepted = i.accepted; items = i.items; calls = i.calls; collections = i.collections }
   ]
 
   module _ (x : Node R L) (i : Sound x) where
@@ -64,7 +65,7 @@ module _ {R : Type 0} {join : R → R → R} {s : Words R} {P : R → Type 0} (r
     either false d e h f = f
 
     answers_done : (y : Node R L) (to : ℕ) (m : Message R) → Sound y → IsMessage join s P Q g n to m → Done (answers y to m)
-    answers_done y to m i h = record { node = i; posts = λ e. (h, tt); reads = tt; ends = tt }
+    answers_done y to m i h = record { node = i; posts = λ e. (h, tt); reads = tt; ends = tt; collects = tt }
 
     -- ---- a message comes
 
@@ -114,7 +115,7 @@ module _ {R : Type 0} {join : R → R → R} {s : Words R} {P : R → Type 0} (r
     compares_done from tag named p table prefix hash =
         either (nat_lt (newest k.reading x.view) named) _ _ (answers_done x from (Behind tag (newest k.reading x.view)) i tt)
         (either (not (is_given k x.view n p)) _ _ (answers_done x from (NotHere tag) i tt)
-        (record { node = i; posts = λ e. (compared_is from tag p table prefix hash, tt); reads = tt; ends = tt }))
+        (record { node = i; posts = λ e. (compared_is from tag p table prefix hash, tt); reads = tt; ends = tt; collects = tt }))
 
     at_walk_done : (table : ℕ) (prefix : List ℕ) (f : Walk → Did R L) (o : Option Walk) → ((w : Walk) → Done (f w)) → Done (at_walk join s k x table prefix f o)
     at_walk_done table prefix f None h = rests
@@ -130,13 +131,14 @@ module _ {R : Type 0} {join : R → R → R} {s : Words R} {P : R → Type 0} (r
           posts = λ e. after_posts rules Q k g n x mending.number (walk_after join s x w table prefix answer) table (asked_after join s x w.state.partition table prefix answer) i.accepted e;
           reads = tt;
           ends = tt;
+          collects = tt;
         }))
         d
 
     late_done : (from number p table : ℕ) (prefix : List ℕ) (answer : Option (List (ℕ × Hash32))) → Done (late_came join s k x from number p table prefix answer)
     late_done from number p table prefix answer =
-        mending_done (with_lasting join s k x) _ (λ m. record { accepted = i.accepted; items = i.items; calls = i.calls })
-        (mending_done (with_mending join s k x) _ (λ m. record { accepted = i.accepted; items = i.items; calls = i.calls }) rests from number p table prefix answer x.mending)
+        mending_done (with_lasting join s k x) _ (λ m. record { accepted = i.accepted; items = i.items; calls = i.calls; collections = i.collections })
+        (mending_done (with_mending join s k x) _ (λ m. record { accepted = i.accepted; items = i.items; calls = i.calls; collections = i.collections }) rests from number p table prefix answer x.mending)
         from number p table prefix answer x.lasting
 
     walked_done : (table : ℕ) (prefix : List ℕ) (answer : Option (List (ℕ × Hash32))) (round : Round) (w : Walk) → Done (round_walks join s k n x table prefix answer round w)
@@ -146,11 +148,12 @@ module _ {R : Type 0} {join : R → R → R} {s : Words R} {P : R → Type 0} (r
         record {
           node = elim (found_same later) as (λ b. Sound (cond b (goes_on join s k n x (record now { confirmed = now.confirmed ++ record { partition = w.state.partition; node = w.node } ∷ [] })) (record x { round = Some now }))) [
             | true ↦ goes_done x (record now { confirmed = now.confirmed ++ record { partition = w.state.partition; node = w.node } ∷ [] }) i
-            | false ↦ record { accepted = i.accepted; items = i.items; calls = i.calls }
+            | false ↦ record { accepted = i.accepted; items = i.items; calls = i.calls; collections = i.collections }
           ];
           posts = λ e. after_posts rules Q k g n x round.number later table (asked_after join s x w.state.partition table prefix answer) i.accepted e;
           reads = tt;
           ends = tt;
+          collects = tt;
         }
 
     answered_done : (from number p table : ℕ) (prefix : List ℕ) (answer : Option (List (ℕ × Hash32))) (o : Option Round) → Done (answer_came join s k n x from number p table prefix answer o)
@@ -177,18 +180,18 @@ module _ {R : Type 0} {join : R → R → R} {s : Words R} {P : R → Type 0} (r
     confirms_done : (from : ℕ) (tag : Tag) → Done (confirms join s k n x from tag)
     confirms_done from (ForCall request phase slot) = in_call request phase (λ c. stored_came k x c slot from c.present) (call_at x.calls request) refl (λ c there is r p. stored_done join s P Q count n g x c i is k slot from c.present)
     confirms_done from (ForRound number p) = round_done from number p x.round
-    confirms_done from (ForItem number) = record { node = record { accepted = i.accepted; items = items_came x.view from number x.items i.items; calls = i.calls }; posts = λ e. tt; reads = tt; ends = tt }
+    confirms_done from (ForItem number) = record { node = record { accepted = i.accepted; items = items_came x.view from number x.items i.items; calls = i.calls; collections = i.collections }; posts = λ e. tt; reads = tt; ends = tt; collects = tt }
 
     hears_done : (now from : ℕ) (m : Message R) → AreBlocks join s P Q x.blocks → IsMessage join s P Q g from n m → Done (hears join s k n now x from m)
     hears_done now from (Get request phase at table key) bs m =
         let row = row_at join s x.accepted table key in
-        here from request phase at _ (record { node = i; posts = λ e. (gives_found from request phase table key row m (row_found rules x.accepted table key i.accepted), tt); reads = tt; ends = tt })
+        here from request phase at _ (record { node = i; posts = λ e. (gives_found from request phase table key row m (row_found rules x.accepted table key i.accepted), tt); reads = tt; ends = tt; collects = tt })
     hears_done now from (Row request phase row) bs m =
         in_call request phase (λ c. row_came join x c from row c.present) (call_at x.calls request) refl
         (λ c there is r p. row_done rules Q count n g x c i is from row c.present is.present (at_phase (λ q f. IsMessage join s P Q g from n (Row q f row)) c request phase r p m))
     hears_done now from (Range request phase at position prefix after) bs m =
         let answer : AnswersTo join s P Q (g from request phase) _ = record { position = position.0; prefix = prefix; after = after; is = m; answer = record { contents = x.accepted; good = i.accepted; found_is = refl } } in
-        here from request phase at _ (record { node = i; posts = λ e. (answer, tt); reads = tt; ends = tt })
+        here from request phase at _ (record { node = i; posts = λ e. (answer, tt); reads = tt; ends = tt; collects = tt })
     hears_done now from (Rows request phase rs more) bs m =
         in_call request phase (λ c. rows_came join s x c from rs more c.present) (call_at x.calls request) refl
         (λ c there is r p. rows_done rules Q count n g x c i is from rs more c.present is.present (at_phase (λ q f. AnswersTo join s P Q (g n q f) (record { rows = rs; more = more })) c request phase r p m))
@@ -204,6 +207,9 @@ module _ {R : Type 0} {join : R → R → R} {s : Words R} {P : R → Type 0} (r
     hears_done now from (AsksValue tag named p table prefix hash) bs m = compares_done from tag named p table prefix hash
     hears_done now from (HasSame tag table prefix) bs m = walks_done from tag table prefix None
     hears_done now from (Differ tag table prefix pairs) bs m = walks_done from tag table prefix (Some pairs)
+    hears_done now from (Tomb number round row) bs m = tomb_done rules Q k g count n x i now from number round row m
+    hears_done now from (Tombed number round named) bs m = tombed_done rules Q k g count n x i now from number round named
+    hears_done now from (Forget table key hash) bs m = forget_done rules Q k g count n x i table key hash.0 m
 
     pub receives_done : (now from : ℕ) (p : Packet R L) → AreBlocks join s P Q x.blocks → IsPacket join s P Q g from n p → Done (receives join s k n now x from p)
     receives_done now from (says m) bs h = hears_done now from m bs h
@@ -217,18 +223,20 @@ module _ {R : Type 0} {join : R → R → R} {s : Words R} {P : R → Type 0} (r
         let parts = parts_of join s k n x (layout_at k.reading x.view at) (layout_at k.reading x.view (suc at)) in
         let round : Round = record { number = suc x.rounds; target = suc at; parts = parts; confirmed = map (λ (part : Part). record { partition = part.partition; node = n }) parts; walks = walks_of join s x (other_nodes join s k n) parts } in
         record {
-          node = goes_done (record x { rounds = suc x.rounds; lasting = None }) round (record { accepted = i.accepted; items = i.items; calls = i.calls });
+          node = goes_done (record x { rounds = suc x.rounds; lasting = None }) round (record { accepted = i.accepted; items = i.items; calls = i.calls; collections = i.collections });
           posts = λ e. starts_posts rules Q k g n x (suc x.rounds) round.walks;
           reads = tt;
           ends = tt;
+          collects = tt;
         }
 
     syncs_done : (o : Option Round) → Done (syncs join s k n x o).did
     syncs_done (Some round) = record {
-      node = goes_done x (walked_anew join s k x round) (record { accepted = i.accepted; items = i.items; calls = i.calls });
+      node = goes_done x (walked_anew join s k x round) (record { accepted = i.accepted; items = i.items; calls = i.calls; collections = i.collections });
       posts = λ e. starts_posts rules Q k g n x round.number (new_walks join s k x round);
       reads = tt;
       ends = tt;
+      collects = tt;
     }
     syncs_done None = by_test (may_sync join s k n x.view) _ _
       where
@@ -237,16 +245,18 @@ module _ {R : Type 0} {join : R → R → R} {s : Words R} {P : R → Type 0} (r
         by_test false how other = rests
 
     pub acts_done : (now : ℕ) (action : Action) → Done (acts join s k n now x action).did
-    acts_done now RaiseAck = record { node = record { accepted = i.accepted; items = i.items; calls = i.calls }; posts = λ e. tt; reads = tt; ends = tt }
+    acts_done now RaiseAck = record { node = record { accepted = i.accepted; items = i.items; calls = i.calls; collections = i.collections }; posts = λ e. tt; reads = tt; ends = tt; collects = tt }
     acts_done now GoOn = syncs_done x.round
-    acts_done now RaiseSyncAck = record { node = record { accepted = i.accepted; items = i.items; calls = i.calls }; posts = λ e. tt; reads = tt; ends = tt }
+    acts_done now RaiseSyncAck = record { node = record { accepted = i.accepted; items = i.items; calls = i.calls; collections = i.collections }; posts = λ e. tt; reads = tt; ends = tt; collects = tt }
     acts_done now Clean = still join s P Q count n x.calls g _ (sees_node rules Q g count n k now x (cleaned k.reading x.view) i)
-    acts_done now Work = record { node = record { accepted = i.accepted; items = i.items; calls = i.calls }; posts = λ e. items_posts rules Q k g n x.view x.items i.items e; reads = tt; ends = tt }
+    acts_done now Work = record { node = record { accepted = i.accepted; items = i.items; calls = i.calls; collections = i.collections }; posts = λ e. items_posts rules Q k g n x.view x.items i.items e; reads = tt; ends = tt; collects = tt }
     acts_done now Repair =
         let l = layout_at k.reading x.view (newest k.reading x.view) in
         record {
-          node = record { accepted = i.accepted; items = i.items; calls = i.calls };
+          node = record { accepted = i.accepted; items = i.items; calls = i.calls; collections = i.collections };
           posts = λ e. starts_posts rules Q k g n x (suc x.rounds) (walks_of join s x (other_nodes join s k n) (parts_of join s k n x l l));
           reads = tt;
           ends = tt;
+          collects = tt;
         }
+    acts_done now Collect = collects_done rules Q k g count n x i now

@@ -10,14 +10,14 @@ use Rattle.quorum_model.specs.declared.range.RangeAnswer.{RangeAnswer}
 use Rattle.quorum_model.specs.Quorum.{StoreSlot, with_confirmation}
 use Rattle.quorum_model.specs.Window.{Window}
 use Rattle.wire_messages.specs.declared.message.Message.{Message}
-use Rattle.wire_messages.specs.declared.message.Message.TheVariants.{Get, Row, Range, Rows, Store, Stored, Behind, NotHere, BlockGet, Block, NoBlock, Walk as AsksValue, Same as HasSame, Differ}
+use Rattle.wire_messages.specs.declared.message.Message.TheVariants.{Get, Row, Range, Rows, Store, Stored, Behind, NotHere, BlockGet, Block, NoBlock, Walk as AsksValue, Same as HasSame, Differ, Tomb, Tombed, Forget}
 use Rattle.wire_messages.specs.declared.message.Tag.{Tag}
 use Rattle.wire_messages.specs.declared.message.Tag.TheVariants.{Call as ForCall, Round as ForRound, Item as ForItem}
 use Rattle.wire_messages.specs.declared.phase.Phase.{Phase}
 use Rattle.wire_messages.specs.declared.phase.Phase.TheVariants.{Read, Range as Scans, Store as Keeps, Block as Fetches}
 use Rattle.wire_messages.specs.declared.phase.PhaseEnd.TheVariants.{Row as GaveRow, Window as GaveWindow, Kept as IsKept, Block as GaveBlock}
 use Rattle.cluster_machine.specs.declared.step.Action.{Action}
-use Rattle.cluster_machine.specs.declared.step.Action.TheVariants.{Ack as RaiseAck, Sync as GoOn, SyncAck as RaiseSyncAck, Clean, Work, Repair}
+use Rattle.cluster_machine.specs.declared.step.Action.TheVariants.{Ack as RaiseAck, Sync as GoOn, SyncAck as RaiseSyncAck, Clean, Work, Repair, Collect}
 use Rattle.cluster_machine.specs.Layouts.{Layouts, is_given, is_stored}
 use Rattle.cluster_machine.specs.Node.{Question, Scan, Present, resting, asking, scanning, storing, fetching, Call, Node, Round, Packet, says, shows, read, scanned, Did, quiet, Walk, Mending}
 use Rattle.cluster_machine.specs.Rows.{accepts_read, accepts_all, block_at, still, drops, sees}
@@ -27,6 +27,7 @@ use Rattle.cluster_machine.specs.Receives.{answers, where_stored, gives_block, t
 use Rattle.cluster_machine.specs.Acts.{Acted, syncs, acts}
 use Rattle.cluster_machine.specs.Keeping.{AreDifferent}
 use Rattle.machine_origins.specs.Following.{GoesOn, EndsSo, Follows, Began, Begins}
+use Rattle.machine_origins.proofs.Collecting.{beside_follows, tomb_beside, tombed_beside, forget_beside, collects_beside}
 use Rattle.machine_origins.proofs.FollowingCalls.{found_there, was, follows_same, follows_quiet, follows_on, follows_ended}
 
 module _ {R L : Type 0} (x : Node R L) where
@@ -198,6 +199,9 @@ module _ {R L : Type 0} (join : R → R → R) (s : Words R) (k : Layouts L) whe
       follows_hears id now from (AsksValue tag named p table prefix hash) = follows_compares id from tag named p table prefix hash
       follows_hears id now from (HasSame tag table prefix) = follows_walks id from tag table prefix None
       follows_hears id now from (Differ tag table prefix pairs) = follows_walks id from tag table prefix (Some pairs)
+      follows_hears id now from (Tomb number round row) = beside_follows x _ (tomb_beside join s x k id now from number round row)
+      follows_hears id now from (Tombed number round named) = beside_follows x _ (tombed_beside join s x k id now from number round named)
+      follows_hears id now from (Forget table key hash) = beside_follows x _ (forget_beside join s x table key hash.0)
 
       pub follows_receives : (id now from : ℕ) (packet : Packet R L) → Follows x (receives join s k id now x from packet)
       follows_receives id now from (says m) = follows_hears id now from m
@@ -214,6 +218,7 @@ module _ {R L : Type 0} (join : R → R → R) (s : Words R) (k : Layouts L) whe
     follows_acts id now Clean = follows_same x _ (calls_seen id now x (cleaned k.reading x.view)) refl refl refl
     follows_acts id now Work = follows_same x _ refl refl refl refl
     follows_acts id now Repair = follows_same x _ refl refl refl refl
+    follows_acts id now Collect = beside_follows x _ (collects_beside join s x k id now)
 
 module _ {R L : Type 0} (s : Words R) (k : Layouts L) (kept : List R) (x : Node R L) (c : Call R) (differ : AreDifferent x.calls) (there : Has x.calls c) where
   -- the call's phase begins, and each other call stays

@@ -11,13 +11,13 @@ use Rattle.quorum_model.specs.declared.range.RangeAnswer.{RangeAnswer}
 use Rattle.quorum_model.specs.Quorum.{StoreSlot, with_confirmation}
 use Rattle.quorum_model.specs.Window.{Window}
 use Rattle.wire_messages.specs.declared.message.Message.{Message}
-use Rattle.wire_messages.specs.declared.message.Message.TheVariants.{Get, Row, Range, Rows, Store, Stored, Behind, NotHere, BlockGet, Block, NoBlock, Walk as AsksValue, Same as HasSame, Differ}
+use Rattle.wire_messages.specs.declared.message.Message.TheVariants.{Get, Row, Range, Rows, Store, Stored, Behind, NotHere, BlockGet, Block, NoBlock, Walk as AsksValue, Same as HasSame, Differ, Tomb, Tombed, Forget}
 use Rattle.wire_messages.specs.declared.message.Tag.{Tag}
 use Rattle.wire_messages.specs.declared.message.Tag.TheVariants.{Call as ForCall, Round as ForRound, Item as ForItem}
 use Rattle.wire_messages.specs.declared.phase.Phase.{Phase}
 use Rattle.wire_messages.specs.declared.phase.Phase.TheVariants.{Read, Range as Scans, Store as Saves, Block as Fetches}
 use Rattle.cluster_machine.specs.declared.step.Action.{Action}
-use Rattle.cluster_machine.specs.declared.step.Action.TheVariants.{Ack as RaiseAck, Sync as GoOn, SyncAck as RaiseSyncAck, Clean, Work, Repair}
+use Rattle.cluster_machine.specs.declared.step.Action.TheVariants.{Ack as RaiseAck, Sync as GoOn, SyncAck as RaiseSyncAck, Clean, Work, Repair, Collect}
 use Rattle.cluster_machine.specs.Layouts.{Layouts, set_at, stored_sets, is_given, is_stored}
 use Rattle.cluster_machine.specs.Node.{Question, Scan, Present, resting, asking, scanning, storing, fetching, Call, Item, Node, Packet, says, shows, Walk, Round, Mending, Did, quiet}
 use Rattle.cluster_machine.specs.Rows.{accepts_all, block_at, sees}
@@ -26,6 +26,7 @@ use Rattle.cluster_machine.specs.Rounds.{walk_at, walks_of, walks_after, found_s
 use Rattle.cluster_machine.specs.Receives.{answers, where_stored, gives_block, takes, compares, walks_on, round_came, confirms, hears, receives}
 use Rattle.cluster_machine.specs.Acts.{Acted, item_posts, syncs, acts}
 use Rattle.cluster_machine.specs.Keeping.{ArePosts, IsUpTo}
+use Rattle.machine_origins.proofs.Collecting.{beside_keeps, tomb_beside, tombed_beside, forget_beside, collects_beside}
 use Rattle.machine_origins.proofs.FollowingSteps.{calls_all, calls_seen, round_begun}
 use Rattle.machine_origins.proofs.KeepingNodes.{AtMostOneChanges, Stays, Keeps, stays_self, stays_called, keeps_quiet, keeps_cond, newest_cleaned, view_seen, posts_to_each, stores_posts, starts_posts, after_posts, view_all, stays_round}
 use Rattle.crdt_core.proofs.Each.{all_append}
@@ -177,6 +178,9 @@ module _ {R L : Type 0} (join : R → R → R) (s : Words R) (k : Layouts L) (x 
   keeps_hears id now from (AsksValue tag named p table prefix hash) = keeps_compares id from tag named p table prefix hash
   keeps_hears id now from (HasSame tag table prefix) = keeps_walks id from tag table prefix None
   keeps_hears id now from (Differ tag table prefix pairs) = keeps_walks id from tag table prefix (Some pairs)
+  keeps_hears id now from (Tomb number round row) = beside_keeps k x _ (tomb_beside join s x k id now from number round row)
+  keeps_hears id now from (Tombed number round named) = beside_keeps k x _ (tombed_beside join s x k id now from number round named)
+  keeps_hears id now from (Forget table key hash) = beside_keeps k x _ (forget_beside join s x table key hash.0)
 
   pub newest_received : (id now from : ℕ) (packet : Packet R L) (n : ℕ) → IsTrue (is_gapless k.reading x.view.layouts) → newest k.reading x.view ≤ n → IsUpTo k n packet → newest k.reading (receives join s k id now x from packet).node.view ≤ n
   newest_received id now from (says m) n gapless low h = subst (λ a. a ≤ n) (sym (keeps_hears id now from m).stays.newest_stays) low
@@ -236,6 +240,7 @@ module _ {R L : Type 0} (join : R → R → R) (s : Words R) (k : Layouts L) (x 
     stays = record { newest_stays = refl; calls = inl refl };
     posts = starts_posts join s k x (suc x.rounds) (walks_of join s x (other_nodes join s k id) (parts_of join s k id x (layout_at k.reading x.view (newest k.reading x.view)) (layout_at k.reading x.view (newest k.reading x.view))));
   }
+  keeps_acts id now Collect = beside_keeps k x _ (collects_beside join s x k id now)
 
 module _ {R L : Type 0} (s : Words R) (k : Layouts L) (kept : List R) (x : Node R L) (c : Call R) where
   -- a call's phase begins

@@ -20,8 +20,9 @@ use Rattle.cluster_machine.specs.Hashes.{AsksOver, NoClash}
 use Rattle.crdt_core.proofs.Each.{all_weaker}
 use Rattle.quorum_model.specs.Quorum.{is_among}
 use Rattle.plane_model.specs.World as plane
-use Rattle.plane_model.specs.World.{row_at as log_at, kept_at}
-use Rattle.plane_model.specs.Action.{moves, begins_round, finishes, step, run, Happens, HasPushed}
+use Rattle.plane_model.specs.World.{row_at as log_at, collected_at, kept_at}
+use Rattle.plane_model.specs.Kept.{IsGone}
+use Rattle.plane_model.specs.Action.{moves, begins_round, finishes, step, run, Happens}
 use Rattle.plane_laws.proofs.Runs.{run_append, happens_append, run_extends}
 use Rattle.plane_laws.proofs.Sets.{contains_here, contains_none}
 use Rattle.plane_laws.proofs.Sound.{IsSound}
@@ -39,7 +40,7 @@ use Rattle.machine_laws.proofs.Requests.{one_turns}
 use Rattle.machine_laws.proofs.Rounding.{node_after, one_then, completed, complete_is, with_round, round_is, said_starts, unseen_repairs}
 use Rattle.machine_laws.proofs.Turning.{said_known}
 use Rattle.machine_reads.specs.Places.{Place, keys, place_of, at_place}
-use Rattle.machine_reads.specs.Tie.{Issued, Begun, a_round, a_repair, both, State, HasBase, GivesNext, HadThere, HadSome, Means, IsRound, IsPart, IsWalk, IsNode, IsTied}
+use Rattle.machine_reads.specs.Tie.{Issued, Begun, a_round, a_repair, both, State, HasBase, GivesNext, HadThere, IsConfirmed, Means, IsRound, IsPart, IsWalk, IsNode, IsTied}
 use Rattle.machine_reads.proofs.Placed.{keys_laws}
 use Rattle.machine_reads.proofs.Pairs.{filtered}
 use Rattle.machine_reads.proofs.Growth.{Grown, SameAt, base_grows, mending_stays, round_in_stays}
@@ -95,9 +96,9 @@ module _ {R L : Type 0} (join : R → R → R) (s : Words R) (k : Layouts L) (pa
   rounded_same : (g : Issued R L) (n number requests m : ℕ) (b : Begun R) → m ≢ n → SameAt join s k partitions H g (rounded g n number b) requests m
   rounded_same g n number requests m b d = record { calls = λ r low o. record { owner = refl; start = refl; asks = λ ph. refl; stores = λ ph i. refl }; rounds = λ i. rounded_other g n number m i b (inl d) }
 
-  all_here : (q : State join s k partitions H) (rd : plane.Round Place R) (n : ℕ) (parts : List Part) → n ≡ rd.node → AllByRecursion (λ (c : Confirmed). HasPushed q rd c.partition c.node) (map (λ part. record { partition = part.partition; node = n }) parts)
-  all_here q rd n [] e = tt
-  all_here q rd n (part ∷ parts) e = (inl e, all_here q rd n parts e)
+  all_here : (q : State join s k partitions H) (h : Issued R L) (rd : plane.Round Place R) (n : ℕ) (parts : List Part) → n ≡ rd.node → AllByRecursion (λ (c : Confirmed). IsConfirmed join s k partitions H q h rd c.partition c.node) (map (λ part. record { partition = part.partition; node = n }) parts)
+  all_here q h rd n [] e = tt
+  all_here q h rd n (part ∷ parts) e = (inl (inl e), all_here q h rd n parts e)
 
   module _ (A C : Type 0) (w : World R L) (p : State join s k partitions H) (g : Issued R L) (sound : IsSound (both join s k partitions H) p) (t : IsTied join s k partitions H w p g) (clear : NoClash H) where
     -- rows of no partition that a round moves, or a part of it
@@ -116,11 +117,14 @@ module _ {R L : Type 0} (join : R → R → R) (s : Words R) (k : Layouts L) (pa
                   (numbered_has (k.reading.sets l) 0 part part set e (omega arith)) (and_both (is_among n set) (not (is_empty (rows_at join s (w.nodes n) part))) (contains_among n set c) (ap not f)))))
             ] refl
 
-    -- a part that a round moves: this node is in its set here, its set is the one there, and the node has rows of it
+    over_none : (c o : Option R) → o ≡ None → Rattle.plane_model.specs.Rows.IsOver join c o
+    over_none c None e = tt
+    over_none c (Some x) e = cc
+
+    -- a part that a round moves: this node is in its set here, and its set is the one there
     record IsMoved (n : ℕ) (y : Node R L) (here there : Option L) (part : Part) : Type 0 where
       mine : Contains (set_in k here part.partition) n
       set_is : part.set ≡ set_in k there part.partition
-      filled : has_rows join s y part.partition ≡ true
 
     part_from : (n : ℕ) (y : Node R L) (here there : Option L) → AllByRecursion (IsMoved n y here there) (parts_of join s k n y here there)
     part_from n y None there = tt
@@ -140,7 +144,7 @@ module _ {R L : Type 0} (join : R → R → R) (s : Words R) (k : Layouts L) (pa
             elim (is_among n part.set && has_rows join s y part.partition) as (λ b. (is_among n part.set && has_rows join s y part.partition) ≡ b →
             AllByRecursion (IsMoved n y (Some l) there)
             (map (λ (part : Part). record { partition = part.partition; set = set_in k there part.partition }) (cond b (part ∷ filter (λ (part : Part). is_among n part.set && has_rows join s y part.partition) ps) (filter (λ (part : Part). is_among n part.set && has_rows join s y part.partition) ps)))) [
-              | true ↦ (λ e. (let both_ = and_parts (is_among n part.set) (has_rows join s y part.partition) e in record { mine = subst (λ (o : Option (List ℕ)). Contains (unwrap_or o []) n) (sym a.0) (among_contains n part.set both_.0); set_is = refl; filled = both_.1 }, parts_by ps a.1))
+              | true ↦ (λ e. (let both_ = and_parts (is_among n part.set) (has_rows join s y part.partition) e in record { mine = subst (λ (o : Option (List ℕ)). Contains (unwrap_or o []) n) (sym a.0) (among_contains n part.set both_.0); set_is = refl }, parts_by ps a.1))
               | false ↦ (λ e. parts_by ps a.1)
             ] refl
 
@@ -237,35 +241,19 @@ module _ {R L : Type 0} (join : R → R → R) (s : Words R) (k : Layouts L) (pa
           let stored = Rattle.machine_reads.proofs.Sees.read_stored join s k partitions H some w p sound t.control n in
           e ∙ (set_at_same join s k partitions H some w p sound t.control n (suc at) part.partition (let a : oldest k.reading x.view ≤ at = stored in omega arith) next_known ∙ sym (up.sets n (suc at) part.partition known_before))
 
-      -- a part has had rows since the round began
-      had_some : (part : ℕ) → has_rows join s x part ≡ true → HadSome join s k partitions H rd part
-      had_some part e = by_rows (rows_at join s x part) refl e
-        where
-          by_rows : (rs : List R) → rows_at join s x part ≡ rs → not (is_empty rs) ≡ true → HadSome join s k partitions H rd part
-          by_rows [] f h = cc
-          by_rows (r ∷ rs) f h =
-              let inside = filtered (λ z. partition_of s z == part) (rows join s x.accepted) r (subst (λ l. Has l r) (sym f) (inl refl)) in
-              let of_part : partition_of s r ≡ part = eqb-true (partition_of s r) part inside.1 in
-              let here : IsAtLeast join (at_place s join (r ∷ rs) (place_of s r)) r = subst (λ b. IsAtLeast join (cond b (option_join join (at_place s join rs (place_of s r)) (Some r)) (at_place s join rs (place_of s r))) r) (sym (keys_laws.itself (place_of s r))) (at_least_right joins_well (at_place s join rs (place_of s r)) r) in
-              record {
-                at = place_of s r;
-                row = r;
-                had = (of_part, subst (λ o. IsAtLeast join o r) (ap (λ l. at_place s join l (place_of s r)) (sym f) ∙ (shown_at join s k partitions H some joins_well laws x part (place_of s r) (t.nodes n).proper of_part ∙ sym ((t.nodes n).rows (place_of s r)))) here);
-              }
-
       is_parts : (ps : List Part) → AllByRecursion (IsMoved n x (layout_at k.reading x.view at) (layout_at k.reading x.view (suc at))) ps →
           AllByRecursion (λ (part : Part). Contains q₃.pushes (push_of join s k partitions H some joins_well laws q₂ rd x part)) ps → AllByRecursion (IsPart join s k partitions H q₃ h rd) ps
       is_parts [] a b = tt
       is_parts (part ∷ ps) a b = (
-        record { base = subst (λ i. HasBase join s k partitions H q₃ h rd part.partition i) (sym newest_then) (part_base part a.0.mine b.0); set_is = part_set part a.0.set_is; filled = had_some part.partition a.0.filled },
+        record { base = subst (λ i. HasBase join s k partitions H q₃ h rd part.partition i) (sym newest_then) (part_base part a.0.mine b.0); set_is = part_set part a.0.set_is },
         is_parts ps a.1 b.1,
       )
 
       all_parts : AllByRecursion (IsPart join s k partitions H q₃ h rd) parts
       all_parts = is_parts parts (part_from n x (layout_at k.reading x.view at) (layout_at k.reading x.view (suc at))) (pushing_has join s k partitions H some joins_well laws rd x parts q₂)
 
-      over : (part : ℕ) (q : Place) (r : R) → HadThere join s k partitions H rd part q r → IsAtLeast join (at_place s join x.accepted q) r
-      over part q r had = subst (λ o. IsAtLeast join o r) ((t.nodes n).rows q) had.1
+      over : (part : ℕ) (q : Place) (r : R) → HadThere join s k partitions H rd part q r → IsAtLeast join (at_place s join x.accepted q) r ⊎ IsGone P q₃.log q r
+      over part q r had = inl (subst (λ o. IsAtLeast join o r) ((t.nodes n).rows q) had.1)
 
       spelled_all : AllByRecursion (λ part. IsPart join s k partitions H q₃ h rd part × (list_all (is_spelled s) (rows_at join s x part.partition) ≡ true)) parts
       spelled_all = spelled_parts join s k partitions H some joins_well laws (IsPart join s k partitions H q₃ h rd) x parts all_parts spelled
@@ -285,13 +273,13 @@ module _ {R L : Type 0} (join : R → R → R) (s : Words R) (k : Layouts L) (pa
         node = refl;
         target = refl;
         known = (let a : suc at ≤ P.control.newest p.control n = known_before in let b : P.control.newest p.control n ≤ P.control.newest q₃.control n = up.newest n in omega arith);
-        confirmed = all_here q₃ rd n parts refl;
+        confirmed = all_here q₃ h rd n parts refl;
         parts = λ part is.
             let before : Contains (P.control.set p.control at part) n = subst (λ set. Contains set n) (up.sets n at part (let a : suc at ≤ P.control.newest p.control n = known_before in omega arith)) is in
             let mine = subst (λ set. Contains set n) (sym (read_set_same join s k partitions H some w p sound t.control n part ∙ ap (λ i. P.control.set p.control i part) (read_same join s k partitions H some w p sound t.control n))) before in
             let stored = Rattle.machine_reads.proofs.Sees.read_stored join s k partitions H some w p sound t.control n in
             elim (has_part n part (layout_at k.reading x.view at) (layout_at k.reading x.view (suc at)) mine) [
-              | inl none ↦ inl (λ z e. (t.nodes n).rows z ∙ (sym (shown_at join s k partitions H some joins_well laws x part z (t.nodes n).proper e) ∙ ap (λ rs. at_place s join rs z) none))
+              | inl none ↦ inl (λ z e. over_none (collected_at P q₃.log z) _ ((t.nodes n).rows z ∙ (sym (shown_at join s k partitions H some joins_well laws x part z (t.nodes n).proper e) ∙ ap (λ rs. at_place s join rs z) none)))
               | inr has ↦ inr (record {
                 part = record { partition = part; set = set_in k (layout_at k.reading x.view (suc at)) part };
                 is_there = has;
@@ -346,7 +334,7 @@ module _ {R L : Type 0} (join : R → R → R) (s : Words R) (k : Layouts L) (pa
             lasting = tt;
             later_rounds = λ i late. rounded_late g n (suc x.rounds) i (a_round rd) late ∙ m.later_rounds i (omega arith);
           }))
-          (λ q. ap (λ l. kept_at P l q) kept_is ∙ t.kept q) tt sends t.not_asked t.not_stored tt
+          (λ q. ap (λ l. kept_at P l q) kept_is ∙ t.kept q) tt sends t.not_asked t.not_stored (λ q. ap (λ l. collected_at P l q) log_is) (refl, tt)
 
       completes_now : is_complete round ≡ true → Leads join s k partitions H some joins_well {A = A} {C = C} w p g (did w n (begin_round join s k n x))
       unfolding is_round
@@ -397,7 +385,7 @@ module _ {R L : Type 0} (join : R → R → R) (s : Words R) (k : Layouts L) (pa
           }))
           (λ q. ap (λ (z : State join s k partitions H). kept_at P z.kept q) same_run ∙ (ap (λ l. kept_at P l q) kept_is ∙ t.kept q)) tt
           (sent_starts join s k partitions H some joins_well laws w n new over (suc x.rounds) a_repair over_here x (walks_of join s x (other_nodes join s k n) parts) (all_free join s k partitions H some joins_well laws w p g sound t A C clear new over n (suc x.rounds) x over_here (walks_of join s x (other_nodes join s k n) parts)) (λ part one. tt))
-          t.not_asked t.not_stored tt
+          t.not_asked t.not_stored (λ q. ap (λ (z : State join s k partitions H). collected_at P z.log q) same_run ∙ ap (λ l. collected_at P l q) log_is) (refl, tt)
 
       pub round_begins : Leads join s k partitions H some joins_well {A = A} {C = C} w p g (did w n (begin_round join s k n x))
       round_begins = elim (is_complete round) as (λ b. is_complete round ≡ b → Leads join s k partitions H some joins_well {A = A} {C = C} w p g (did w n (begin_round join s k n x))) [ true ↦ completes_now | false ↦ stays_open ] refl
@@ -426,4 +414,4 @@ module _ {R L : Type 0} (join : R → R → R) (s : Words R) (k : Layouts L) (pa
           later_rounds = λ i late. rounded_late g n number i a_repair late ∙ m.later_rounds i (omega arith);
         })
         (sent_starts join s k partitions H some joins_well laws w n p h number a_repair (rounded_here g n number a_repair) x (walks_of join s x (other_nodes join s k n) parts) (all_free join s k partitions H some joins_well laws w p g sound t A C clear p h n number x (rounded_here g n number a_repair) (walks_of join s x (other_nodes join s k n) parts)) (λ part one. tt))
-        t.not_asked t.not_stored tt
+        t.not_asked t.not_stored (refl, tt)

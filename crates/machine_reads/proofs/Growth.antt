@@ -7,29 +7,31 @@ use Rattle.table_schema.specs.Words.{Words, partition_of}
 use Rattle.quorum_model.specs.Quorum.{StoreSlot}
 use Rattle.quorum_model.specs.declared.range.RangeAnswer.{RangeAnswer}
 use Rattle.wire_messages.specs.declared.message.Message.{Message}
-use Rattle.wire_messages.specs.declared.message.Message.TheVariants.{Get, Row, Range, Rows, Store, Stored, Behind, NotHere, BlockGet, Block, NoBlock, Walk as AsksValue, Same as HasSame, Differ}
+use Rattle.wire_messages.specs.declared.message.Message.TheVariants.{Get, Row, Range, Rows, Store, Stored, Behind, NotHere, BlockGet, Block, NoBlock, Walk as AsksValue, Same as HasSame, Differ, Tomb, Tombed, Forget}
 use Rattle.wire_messages.specs.declared.message.Tag.{Tag}
 use Rattle.wire_messages.specs.declared.message.Tag.TheVariants.{Call as ForCall, Round as ForRound, Item as ForItem}
 use Rattle.plane_model.specs.World as plane
-use Rattle.plane_model.specs.World.{Extends, row_at as log_at}
+use Rattle.plane_model.specs.World.{Extends, row_at as log_at, collected_at}
+use Rattle.plane_model.specs.Rows.{IsOver as PlaneOver}
 use Rattle.plane_model.specs.Action.{HasPushed}
-use Rattle.plane_model.specs.Kept.{Holds}
+use Rattle.plane_model.specs.Kept.{Holds, IsGone}
 use Rattle.cluster_machine.specs.Layouts.{Layouts}
 use Rattle.cluster_machine.specs.Node as machine
 use Rattle.cluster_machine.specs.Node.{Scan, Present, resting, asking, scanning, storing, fetching, Call, Packet, says, shows, Node}
 use Rattle.cluster_machine.specs.World.{Sent}
 use Rattle.machine_reads.specs.Places.{Place}
-use Rattle.machine_reads.specs.Tie.{Question, Asked, a_key, a_range, Begun, a_round, a_repair, Issued, both, State, Answered, AtKey, InRange, AnsweredRow, AnsweredRows, IsAsked, HasBase, GivesNext, IsPushOf, IsPushedOf, IsAskOf, IsAnswer, IsAnswerOf, MeansValue, MeansReply, MeansTag, MeansDone, IsWalk, IsPart, IsMending, MeansMessage, MeansPacket, Means, IsAsking, IsScanning, AreSets, IsSlot, IsStoring, IsPresent, IsCall, IsRound, IsRoundIn, IsNode}
+use Rattle.machine_reads.specs.Tie.{Question, Asked, a_key, a_range, Begun, a_round, a_repair, Issued, both, State, Answered, AtKey, InRange, AnsweredRow, AnsweredRows, IsAsked, HasBase, GivesNext, HoldsFor, IsAllGone, IsConfirmed, IsPushOf, IsPushedOf, IsAskOf, IsAnswer, IsAnswerOf, MeansValue, MeansReply, MeansTag, MeansDone, IsWalk, IsPart, IsMending, MeansMessage, MeansPacket, Means, IsAsking, IsScanning, AreSets, IsSlot, IsStoring, IsPresent, IsCall, IsRound, IsRoundIn, IsNode}
 use Rattle.crdt_core.proofs.Each.{all_weaker}
 
 module _ {R L : Type 0} (join : R → R → R) (s : Words R) (k : Layouts L) (partitions : ℕ) (H : List ℕ → Type 0) where
   -- the data plane's world and what was issued only grow, but that a number of a round may become one of a repair
   pub record Grown (p new : State join s k partitions H) (g h : Issued R L) : Type 0 where
     pub lists : Extends p new
+    pub gone : (q : Place) (x : R) → IsGone (both join s k partitions H) p.log q x → IsGone (both join s k partitions H) new.log q x
     pub oldest : (n : ℕ) → (both join s k partitions H).control.oldest p.control n ≤ (both join s k partitions H).control.oldest new.control n
     pub newest : (n : ℕ) → (both join s k partitions H).control.newest p.control n ≤ (both join s k partitions H).control.newest new.control n
     pub sets : (n i part : ℕ) → i ≤ (both join s k partitions H).control.newest p.control n → (both join s k partitions H).control.set new.control i part ≡ (both join s k partitions H).control.set p.control i part
-    pub holds : (i : ℕ) (q : Place) (x : R) (n : ℕ) → Holds (both join s k partitions H) p.control p.log i q x n → Holds (both join s k partitions H) new.control new.log i q x n
+    pub holds : (i : ℕ) (q : Place) (x : R) (n : ℕ) → Holds (both join s k partitions H) p.control p.log i q x n → Holds (both join s k partitions H) new.control new.log i q x n ⊎ IsGone (both join s k partitions H) new.log q x
     pub asks : (request phase : ℕ) (a : Asked R L) → g.asks request phase ≡ Some a → h.asks request phase ≡ Some a
     pub stores : (request phase slot : ℕ) (a : plane.Store Place R) → g.stores request phase slot ≡ Some a → h.stores request phase slot ≡ Some a
     pub rounds : (n number : ℕ) (b : Begun R) → g.rounds n number ≡ Some b → (h.rounds n number ≡ Some b) ⊎ (h.rounds n number ≡ Some a_repair)
@@ -99,23 +101,27 @@ module _ {R L : Type 0} (join : R → R → R) (s : Words R) (k : Layouts L) (pa
     given_grows : (round : plane.Round Place R) (part n : ℕ) → suc round.from ≤ (both join s k partitions H).control.newest p.control round.node → GivesNext join s k partitions H p g round part n → GivesNext join s k partitions H new h round part n
     given_grows round part n known m = subst (λ set. Contains set n) (sym (up.sets round.node (suc round.from) part known)) m
 
+    -- what was held or collected is held or collected
+    pub held_grows : (round : plane.Round Place R) (n : ℕ) (q : Place) (x : R) → HoldsFor join s k partitions H p g round n q x → HoldsFor join s k partitions H new h round n q x
+    held_grows round n q x m = elim m [ inl held ↦ up.holds (suc round.from) q x n held | inr gone ↦ inr (up.gone q x gone) ]
+
     push_grows : (b : Begun R) (part named : ℕ) (rows : List (List ℕ × Option (List ℕ))) (to : ℕ) → IsPushOf join s k partitions H p g b part named rows to → IsPushOf join s k partitions H new h b part named rows to
-    push_grows (a_round round) part named rows to m = record { base = base_stays round part named m.base; covers = λ q x had. elim (m.covers q x had) [ inl rows_have ↦ inl rows_have | inr holds ↦ inr (up.holds (suc round.from) q x to holds) ] }
+    push_grows (a_round round) part named rows to m = record { base = base_stays round part named m.base; covers = λ q x had. elim (m.covers q x had) [ inl rows_have ↦ inl rows_have | inr held ↦ inr (held_grows round to q x held) ] }
     push_grows a_repair part named rows to m = tt
 
     ask_grows : (b : Begun R) (part named table : ℕ) (prefix hash : List ℕ) (to : ℕ) → IsAskOf join s k partitions H p g b part named table prefix hash to → IsAskOf join s k partitions H new h b part named table prefix hash to
-    ask_grows (a_round round) part named table prefix hash to m = record { base = base_stays round part named m.base; given = given_grows round part to m.base.known m.given; contents = m.contents; hashed = m.hashed; over = m.over; hash_is = m.hash_is }
+    ask_grows (a_round round) part named table prefix hash to m = record { base = base_stays round part named m.base; given = given_grows round part to m.base.known m.given; contents = m.contents; hashed = m.hashed; over = λ q x had. elim (m.over q x had) [ inl has ↦ inl has | inr gone ↦ inr (up.gone q x gone) ]; hash_is = m.hash_is }
     ask_grows a_repair part named table prefix hash to m = tt
 
     says_grow : (round : plane.Round Place R) (part table : ℕ) (prefix : List ℕ) (answer : Option (List (ℕ × Hash32))) (from : ℕ) → IsAnswer join s k partitions H p g round part table prefix answer from → IsAnswer join s k partitions H new h round part table prefix answer from
-    says_grow round part table prefix None from m = record { base = base_here round part from m.base; given = given_grows round part from m.base.known m.given; holds = λ q x had below. up.holds (suc round.from) q x from (m.holds q x had below) }
+    says_grow round part table prefix None from m = record { base = base_here round part from m.base; given = given_grows round part from m.base.known m.given; holds = λ q x had below. held_grows round from q x (m.holds q x had below) }
     says_grow round part table prefix (Some pairs) from m = record {
       base = base_here round part from m.base;
       given = given_grows round part from m.base.known m.given;
       contents = m.contents;
       hashed = m.hashed;
       children_are = m.children_are;
-      holds = λ q x e has. up.holds (suc round.from) q x from (m.holds q x e has);
+      holds = λ q x e has. held_grows round from q x (m.holds q x e has);
     }
 
     answer_grows : (b : Begun R) (part table : ℕ) (prefix : List ℕ) (answer : Option (List (ℕ × Hash32))) (from : ℕ) → IsAnswerOf join s k partitions H p g b part table prefix answer from → IsAnswerOf join s k partitions H new h b part table prefix answer from
@@ -161,6 +167,9 @@ module _ {R L : Type 0} (join : R → R → R) (s : Words R) (k : Layouts L) (pa
     message_grows from to (AsksValue tag named part table prefix hash) m = value_grows from to tag named part table prefix hash.0 m
     message_grows from to (HasSame tag table prefix) m = reply_grows from to tag table prefix None m
     message_grows from to (Differ tag table prefix pairs) m = reply_grows from to tag table prefix (Some pairs) m
+    message_grows from to (Tomb number round row) m = tt
+    message_grows from to (Tombed number round named) m = tt
+    message_grows from to (Forget table key hash) m = tt
 
     packet_grows : (from to : ℕ) (x : Packet R L) → MeansPacket join s k partitions H p g from to x → MeansPacket join s k partitions H new h from to x
     packet_grows from to (says x) m = message_grows from to x m
@@ -202,7 +211,7 @@ module _ {R L : Type 0} (join : R → R → R) (s : Words R) (k : Layouts L) (pa
     storing_grows n request phase slot (r ∷ rs) (t ∷ ts) same m = (slot_grows n request phase slot r t same m.0, storing_grows n request phase (suc slot) rs ts same m.1)
 
     asking_grows : (request phase : ℕ) (q : machine.Question R) (as' : List (ℕ × Option R)) → IsAsking join s k partitions H p g request phase q as' → IsAsking join s k partitions H new h request phase q as'
-    asking_grows request phase q as' m = record { question = m.question; issued = up.asks request phase (a_key m.question q.table q.key) m.issued; kept = m.kept; answered = all_weaker _ _ (λ a b. key_grows m.question q.table q.key a.0 a.1 b) as' m.answered }
+    asking_grows request phase q as' m = record { question = m.question; issued = up.asks request phase (a_key m.question q.table q.key) m.issued; one_partition = m.one_partition; kept = m.kept; answered = all_weaker _ _ (λ a b. key_grows m.question q.table q.key a.0 a.1 b) as' m.answered }
 
     scanning_grows : (request phase : ℕ) (q : Scan R) (as' : List (ℕ × RangeAnswer R)) → IsScanning join s k partitions H p g request phase q as' → IsScanning join s k partitions H new h request phase q as'
     scanning_grows request phase q as' m = record {
@@ -239,15 +248,26 @@ module _ {R L : Type 0} (join : R → R → R) (s : Words R) (k : Layouts L) (pa
     has_pushed_grows : (r : plane.Round Place R) (part n : ℕ) → HasPushed p r part n → HasPushed new r part n
     has_pushed_grows r part n m = elim m [ inl e ↦ inl e | inr c ↦ inr (up.lists.pushed _ c) ]
 
+    -- what is collected is over what it was over
+    gone_over : (o : Option R) (q : Place) → PlaneOver join (collected_at (both join s k partitions H) p.log q) o → PlaneOver join (collected_at (both join s k partitions H) new.log q) o
+    gone_over None q h = tt
+    gone_over (Some x) q h = up.gone q x h
+
+    all_gone_grows : (round : plane.Round Place R) (part : ℕ) → IsAllGone join s k partitions H p g round part → IsAllGone join s k partitions H new h round part
+    all_gone_grows round part m = λ q e. gone_over (log_at (both join s k partitions H) round.log round.node q) q (m q e)
+
+    confirmed_grows : (round : plane.Round Place R) (part n : ℕ) → IsConfirmed join s k partitions H p g round part n → IsConfirmed join s k partitions H new h round part n
+    confirmed_grows round part n m = elim m [ inl pushed ↦ inl (has_pushed_grows round part n pushed) | inr gone ↦ inr (all_gone_grows round part gone) ]
+
     pub walk_stays : (round : plane.Round Place R) (w : machine.Walk) → IsWalk join s k partitions H p g round w → IsWalk join s k partitions H new h round w
     walk_stays round w m = record {
       base = base_here round w.state.partition round.node m.base;
       given = given_grows round w.state.partition w.node m.base.known m.given;
-      covers = λ q x had. elim (m.covers q x had) [ inl holds ↦ inl (up.holds (suc round.from) q x w.node holds) | inr rest ↦ inr rest ];
+      covers = λ q x had. elim (m.covers q x had) [ inl held ↦ inl (held_grows round w.node q x held) | inr rest ↦ inr rest ];
     }
 
     pub part_stays : (round : plane.Round Place R) (part : machine.Part) → IsPart join s k partitions H p g round part → IsPart join s k partitions H new h round part
-    part_stays round part m = record { base = base_here round part.partition round.node m.base; set_is = m.set_is ∙ sym (up.sets round.node (suc round.from) part.partition m.base.known); filled = m.filled }
+    part_stays round part m = record { base = base_here round part.partition round.node m.base; set_is = m.set_is ∙ sym (up.sets round.node (suc round.from) part.partition m.base.known) }
 
     pub mending_stays : (n : ℕ) (x : Option machine.Mending) → IsMending join s k partitions H p g n x → IsMending join s k partitions H new h n x
     mending_stays n None m = tt
@@ -270,9 +290,9 @@ module _ {R L : Type 0} (join : R → R → R) (s : Words R) (k : Layouts L) (pa
           node = m.node;
           target = m.target;
           known = omega arith;
-          confirmed = all_weaker _ _ (λ (c : machine.Confirmed) b. has_pushed_grows m.round c.partition c.node b) x.confirmed m.confirmed;
+          confirmed = all_weaker _ _ (λ (c : machine.Confirmed) b. confirmed_grows m.round c.partition c.node b) x.confirmed m.confirmed;
           parts = λ part is. elim (m.parts part (subst (λ set. Contains set n) (up.sets n m.round.from part (omega arith)) is)) [
-            | inl none ↦ inl none
+            | inl gone ↦ inl (all_gone_grows m.round part gone)
             | inr some ↦ inr (record { part = some.part; is_there = some.is_there; partition_is = some.partition_is; set_is = some.set_is ∙ sym (up.sets n x.target part m.known) })
           ];
           all_parts = all_weaker _ _ (part_stays m.round) x.parts m.all_parts;

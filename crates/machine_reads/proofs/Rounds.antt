@@ -18,7 +18,7 @@ use Rattle.plane_model.specs.World as plane
 use Rattle.plane_model.specs.World.{row_at as log_at, row_in}
 use Rattle.plane_model.specs.Action.{moves, pushes, finishes, step, run, Happens, MayFinish, MayMove, HasPushed}
 use Rattle.plane_laws.proofs.Runs.{run_extends}
-use Rattle.plane_laws.proofs.Sets.{contains_here, two_weaker}
+use Rattle.plane_laws.proofs.Sets.{contains_here, two_or}
 use Rattle.plane_laws.proofs.Sound.{IsSound}
 use Rattle.plane_meets.proofs.Completes.{completes_open}
 use Rattle.cluster_machine.specs.Layouts.{Layouts}
@@ -35,7 +35,7 @@ use Rattle.machine_laws.proofs.Rounding.{speaks, some_same, completed, complete_
 use Rattle.machine_laws.proofs.Requests.{one_turns}
 use Rattle.layout_trackers.specs.declared.which.Which.TheVariants.{Sync}
 use Rattle.machine_reads.specs.Places.{Place, keys, place_of, at_place}
-use Rattle.machine_reads.specs.Tie.{Issued, Begun, a_round, a_repair, both, State, with_read, rows_read, placed, MeansPushed, Means, IsRound, IsRoundIn, IsTied}
+use Rattle.machine_reads.specs.Tie.{Issued, Begun, a_round, a_repair, both, State, with_read, rows_read, placed, IsAllGone, IsConfirmed, MeansPushed, Means, IsRound, IsRoundIn, IsTied}
 use Rattle.machine_reads.proofs.Placed.{rows_at_place, kept_at_place}
 use Rattle.machine_reads.proofs.Growth.{Grown, same_at, call_stays, mending_stays}
 use Rattle.machine_reads.proofs.Leads.{issues_self, rounded, rounded_here, rounded_other, over_issues, Act, grown, Leads, by_node}
@@ -73,7 +73,7 @@ module _ {R L : Type 0} (join : R → R → R) (s : Words R) (k : Layouts L) (pa
       ((z : Place) → log_at P q.log rd.node z ≡ at_place s join x.accepted z) → AllByRecursion (λ r. IsTrue (s.is_proper r)) x.accepted → Happens P q (pushing rd x parts)
   pushing_happens rd x [] q there opens_it has proper = tt
   pushing_happens rd x (part ∷ parts) q there opens_it has proper = (
-    record { began = there; is_open = opens_it; shows = λ z e. inr (placed_in (rows_at join s x part.partition) z ∙ (shown_at x part.partition z proper e ∙ sym (has z))) },
+    record { began = there; is_open = opens_it; shows = λ z e. inr (inl (placed_in (rows_at join s x part.partition) z ∙ (shown_at x part.partition z proper e ∙ sym (has z)))) },
     pushing_happens rd x parts (step P q (pushes rd part.partition (map (placed join s k partitions H) (rows_at join s x part.partition)))) there opens_it has proper,
   )
 
@@ -97,16 +97,17 @@ module _ {R L : Type 0} (join : R → R → R) (s : Words R) (k : Layouts L) (pa
       let parts = and_parts (is_spelled s r) (list_all (is_spelled s) rs) e in
       ap (λ o. with_read join s k partitions H o (rows_read join s k partitions H (map (with_its_block join s x) rs))) (read_back laws r parts.0) ∙ ap (λ xs. r ∷ xs) (rows_back x rs parts.1)
 
-  pub confirmed_pushed : (q : State join s k partitions H) (rd : plane.Round Place R) (part n : ℕ) (cs : List Confirmed) → AllByRecursion (λ (c : Confirmed). HasPushed q rd c.partition c.node) cs → is_among n (confirmed_for part cs) ≡ true → HasPushed q rd part n
-  confirmed_pushed q rd part n [] a h = cc
-  confirmed_pushed q rd part n (c ∷ cs) a h =
-      elim (c.partition == part) as (λ b. (c.partition == part) ≡ b → is_among n (map (λ (c : Confirmed). c.node) (cond b (c ∷ filter (λ (c : Confirmed). c.partition == part) cs) (filter (λ (c : Confirmed). c.partition == part) cs))) ≡ true → HasPushed q rd part n) [
+  pub confirmed_is : (q : State join s k partitions H) (h : Issued R L) (rd : plane.Round Place R) (part n : ℕ) (cs : List Confirmed) → AllByRecursion (λ (c : Confirmed). IsConfirmed join s k partitions H q h rd c.partition c.node) cs → is_among n (confirmed_for part cs) ≡ true → IsConfirmed join s k partitions H q h rd part n
+  confirmed_is q h rd part n [] a e = cc
+  confirmed_is q h rd part n (c ∷ cs) a there =
+      let Is : ℕ → ℕ → Type 0 = λ i m. IsConfirmed join s k partitions H q h rd i m in
+      elim (c.partition == part) as (λ b. (c.partition == part) ≡ b → is_among n (map (λ (c : Confirmed). c.node) (cond b (c ∷ filter (λ (c : Confirmed). c.partition == part) cs) (filter (λ (c : Confirmed). c.partition == part) cs))) ≡ true → Is part n) [
         | true ↦ (λ e g. elim (Rattle.std.proofs.lemmas.Bool.or_cases (c.node == n) (is_among n (confirmed_for part cs)) g) [
-          | inl here ↦ subst (λ m. HasPushed q rd part m) (eqb-true c.node n here) (subst (λ i. HasPushed q rd i c.node) (eqb-true c.partition part e) a.0)
-          | inr more ↦ confirmed_pushed q rd part n cs a.1 more
+          | inl here ↦ subst (λ m. Is part m) (eqb-true c.node n here) (subst (λ i. Is i c.node) (eqb-true c.partition part e) a.0)
+          | inr more ↦ confirmed_is q h rd part n cs a.1 more
         ])
-        | false ↦ (λ e g. confirmed_pushed q rd part n cs a.1 g)
-      ] refl h
+        | false ↦ (λ e g. confirmed_is q h rd part n cs a.1 g)
+      ] refl there
 
   module _ (A C : Type 0) (w : World R L) (p : State join s k partitions H) (g : Issued R L) (sound : IsSound (both join s k partitions H) p) (t : IsTied join s k partitions H w p g) where
     -- an open round of the machine is open in the control plane
@@ -121,15 +122,17 @@ module _ {R L : Type 0} (join : R → R → R) (s : Words R) (k : Layouts L) (pa
       began = m.is_there;
       is_open = opens_it;
       two = λ part is. elim (m.parts part (subst (λ i. Contains (P.control.set q.control m.round.from part) i) m.node is)) [
-        | inl none ↦ inl (λ z e. ap (λ i. log_at P m.round.log i z) m.node ∙ none z e)
-        | inr has ↦ inr (
+        | inl gone ↦ inl gone
+        | inr has ↦
             let test = all_in (λ part. two_of part.set (confirmed_for part.partition x.confirmed)) x.parts has.part complete has.is_there in
             let set_same : has.part.set ≡ P.control.set p.control x.target part = has.set_is ∙ up.sets n x.target part known in
             let test' : two_of (P.control.set p.control x.target part) (confirmed_for part x.confirmed) ≡ true = ap (λ t. two_of t (confirmed_for part x.confirmed)) (sym set_same) ∙ (ap (λ i. two_of has.part.set (confirmed_for i x.confirmed)) (sym has.partition_is) ∙ test) in
             let two = two_at join s k partitions H some w p g sound t.control x.target part (confirmed_for part x.confirmed) test' in
-            subst (λ i. Rattle.plane_model.specs.Sets.Two (P.control.set q.control i part) (HasPushed q m.round part)) (sym m.target)
-            (subst (λ set. Rattle.plane_model.specs.Sets.Two set (HasPushed q m.round part)) (sym (up.sets n x.target part known))
-            (two_weaker (P.control.set p.control x.target part) (λ i. is_among i (confirmed_for part x.confirmed) ≡ true) (HasPushed q m.round part) (λ i c e. confirmed_pushed q m.round part i x.confirmed m.confirmed e) two)))
+            elim (two_or {G = IsAllGone join s k partitions H q h m.round part} (P.control.set p.control x.target part) (λ i. is_among i (confirmed_for part x.confirmed) ≡ true) (HasPushed q m.round part) (λ i c e. confirmed_is q h m.round part i x.confirmed m.confirmed e) two) [
+              | inl pushed ↦ inr (subst (λ i. Rattle.plane_model.specs.Sets.Two (P.control.set q.control i part) (HasPushed q m.round part)) (sym m.target)
+                  (subst (λ set. Rattle.plane_model.specs.Sets.Two set (HasPushed q m.round part)) (sym (up.sets n x.target part known)) pushed))
+              | inr gone ↦ inl gone
+            ]
       ];
     }
 
@@ -158,7 +161,7 @@ module _ {R L : Type 0} (join : R → R → R) (s : Words R) (k : Layouts L) (pa
         quietly join s k partitions H some joins_well w p g g n (speaks (record y { round = Some x }) posts spelled) [] sound t (record { same = record { view = refl; calls = refl; round = ap Some same ∙ sym (ap (option_map target_of) e) }; posts = said }) tt refl refl refl (issues_self g)
         (λ i d. same_at join s k partitions H g (length w.requests) i) refl
         (record { rows = tied.rows; proper = tied.proper; calls = tied.calls; round = m; mending = tied.mending; lasting = tied.lasting; later_rounds = tied.later_rounds })
-        sends t.not_asked t.not_stored tt
+        sends t.not_asked t.not_stored (refl, tt)
     round_by n old x posts spelled true said e same m complete sends over =
         let y = w.nodes n in
         let tied = t.nodes n in
@@ -188,7 +191,7 @@ module _ {R L : Type 0} (join : R → R → R) (s : Words R) (k : Layouts L) (pa
           lasting = rounded_here g n x.number a_repair;
           later_rounds = λ i late. rounded_other g n x.number n i a_repair (inr (λ e. none_is (sym (tied.later_rounds i late) ∙ (ap (g.rounds n) e ∙ m.issued)))) ∙ tied.later_rounds i late;
         })
-        (λ q. t.kept q) tt (over new h (rounded_here g n x.number a_repair)) t.not_asked t.not_stored tt
+        (λ q. t.kept q) tt (over new h (rounded_here g n x.number a_repair)) t.not_asked t.not_stored (λ q. refl) (refl, tt)
 
     pub round_confirmed : (n from number part : ℕ) (x : machine.Round) → (w.nodes n).round ≡ Some x → x.number ≡ number → MeansPushed join s k partitions H p g n number part from →
         Leads join s k partitions H some joins_well {A = A} {C = C} w p g (did w n (quiet (goes_on join s k n (w.nodes n) (record x { confirmed = x.confirmed ++ record { partition = part; node = from } ∷ [] }))))
@@ -205,7 +208,7 @@ module _ {R L : Type 0} (join : R → R → R) (s : Words R) (k : Layouts L) (pa
           node = r.node;
           target = r.target;
           known = r.known;
-          confirmed = all_append (λ (c : Confirmed). HasPushed p r.round c.partition c.node) x.confirmed (record { partition = part; node = from } ∷ []) r.confirmed (inr pushed, tt);
+          confirmed = all_append (λ (c : Confirmed). IsConfirmed join s k partitions H p g r.round c.partition c.node) x.confirmed (record { partition = part; node = from } ∷ []) r.confirmed (inl (inr pushed), tt);
           parts = r.parts;
           all_parts = r.all_parts;
           walks = r.walks;

@@ -109,20 +109,22 @@ module _ {R L : Type 0} (join : R → R → R) (s : Words R) (k : Layouts L) (pa
         later_rounds = m.later_rounds;
       })
       (λ q. ap (λ (z : State join s k partitions H). kept_at P z.kept q) same_run ∙ (ap (λ l. kept_at P l q) (dropping_same join s k partitions H (λ q. q.kept) n (λ q part. refl) test x.accepted mid ∙ moved_kept join s k partitions H steps p) ∙ t.kept q))
-      tt tt t.not_asked t.not_stored tt
+      tt tt t.not_asked t.not_stored
+      (λ q. ap (λ (z : State join s k partitions H). Rattle.plane_model.specs.World.collected_at P z.log q) same_run ∙ (dropping_same join s k partitions H (λ z. Rattle.plane_model.specs.World.collected_at P z.log q) n (λ z part. refl) test x.accepted mid ∙ ap (λ l. Rattle.plane_model.specs.World.collected_at P l q) (moved_log join s k partitions H steps p)))
+      (refl, tt)
 
   pub view_comes : (n now : ℕ) (v : View L) (steps : List (Step L)) → list_all is_quiet steps ≡ true → Turns {A = A} {C = C} k partitions w p.control (turn_all k.reading partitions p.control steps) (did w n (quiet (sees join s k n now (w.nodes n) v))) →
       Leads join s k partitions H some joins_well {A = A} {C = C} w p g (did w n (quiet (sees join s k n now (w.nodes n) v)))
   view_comes n now v steps is_q turns =
       let x = w.nodes n in
       elim (leb (oldest k.reading v) (oldest k.reading x.view)) as (λ b. Turns {A = A} {C = C} k partitions w p.control (turn_all k.reading partitions p.control steps) (did w n (quiet (cond b (seeing x v) (drops join s k n now (seeing x v))))) → Leads join s k partitions H some joins_well {A = A} {C = C} w p g (did w n (quiet (cond b (seeing x v) (drops join s k n now (seeing x v)))))) [
-        | true ↦ (λ u. only_control join s k partitions H some joins_well w p g (did w n (quiet (seeing x v))) steps sound t is_q u (one_less n (seeing x v) (seeing_less n v)) refl refl refl (λ q h. tt))
+        | true ↦ (λ u. only_control join s k partitions H some joins_well w p g (did w n (quiet (seeing x v))) steps sound t is_q u (one_less n (seeing x v) (seeing_less n v)) refl refl (refl, refl) (λ q h. tt))
         | false ↦ (λ u. view_drops n now v steps is_q u)
       ] turns
 
   -- a request opens
   pub opens : (n : ℕ) (e : Effects R L A C) → Turns k partitions w p.control (turn_all k.reading partitions p.control (Step.Begin n ∷ [])) e →
-      ((m : ℕ) → e.nodes m ≡ only n (opened (suc (length w.requests)) (newest k.reading (w.nodes n).view) (w.nodes n)) m) → length e.opens ≡ 1 → e.keeps ≡ [] → e.reads ≡ [] → e.sends ≡ [] → Leads join s k partitions H some joins_well {A = A} {C = C} w p g e
+      ((m : ℕ) → e.nodes m ≡ only n (opened (suc (length w.requests)) (newest k.reading (w.nodes n).view) (w.nodes n)) m) → length e.opens ≡ 1 → e.keeps ≡ [] → (e.reads ≡ []) × (e.collects ≡ []) → e.sends ≡ [] → Leads join s k partitions H some joins_well {A = A} {C = C} w p g e
   opens n e turns nodes one keeps reads sends =
       let x = w.nodes n in
       let count = length w.requests in
@@ -171,5 +173,7 @@ module _ {R L : Type 0} (join : R → R → R) (s : Words R) (k : Layouts L) (pa
         sends = subst (AllByRecursion (Rattle.machine_reads.specs.Tie.Means join s k partitions H new h)) (sym sends) tt;
         not_asked = λ r ph late. t.not_asked r ph (omega arith);
         not_stored = λ r ph i late. t.not_stored r ph i (omega arith);
-        reads = subst (AllByRecursion (GaveKept join s)) (sym reads) tt;
+        collected = λ z. t.collected z ∙ ap (λ (cs : List R). at_place s join (cs ++ w.collected) z) (sym reads.1);
+        proper_collected = subst (AllByRecursion (λ r. IsTrue (s.is_proper r))) (sym reads.1) tt;
+        reads = subst (AllByRecursion (GaveKept join s (e.collects ++ w.collected))) (sym reads.0) tt;
       }

@@ -1,5 +1,5 @@
 -- How walks begin: over which tables, and with whom.
-use Rattle.std.specs.Prelude.{◌≡◌, ◌≤◌, ℕ, Bool, true, false, not, cond, ◌==◌, ◌||◌, Some, List, [], ◌∷◌, map, filter, IsTrue, refl}
+use Rattle.std.specs.Prelude.{◌≡◌, ◌≤◌, ◌⊎◌, ℕ, Bool, true, false, not, cond, ◌==◌, ◌||◌, Option, Some, None, List, [], ◌∷◌, map, filter, IsTrue, refl}
 use Rattle.std.specs.List.{Contains, AllByRecursion, list_all, list_any}
 use Rattle.std.proofs.Common.{ap, sym, subst, ◌∙◌, inl, inr, arith}
 use Rattle.std.proofs.lemmas.Bool.{eq-eqb, cases_lt}
@@ -12,9 +12,10 @@ use Rattle.crdt_core.proofs.Each.{all_append, all_weaker}
 use Rattle.table_schema.specs.Words.{Words}
 use Rattle.table_schema.specs.Laws.{Laws}
 use Rattle.walk_model.proofs.Covering.{kept_in, under_start}
-use Rattle.plane_model.specs.Rows.{IsAtLeast}
+use Rattle.plane_model.specs.Rows.{IsAtLeast, IsOver}
 use Rattle.plane_model.specs.World as plane
-use Rattle.plane_model.specs.Action.{HasPushed}
+use Rattle.plane_model.specs.World.{row_at as log_at, collected_at}
+use Rattle.plane_model.specs.Kept.{IsGone}
 use Rattle.plane_laws.proofs.Sound.{IsSound}
 use Rattle.cluster_machine.specs.Layouts.{Layouts}
 use Rattle.cluster_machine.specs.Node as machine
@@ -27,7 +28,7 @@ use Rattle.cluster_machine.specs.World.{World}
 use Rattle.cluster_machine.specs.Step.{did}
 use Rattle.machine_laws.proofs.Rounding.{said_starts}
 use Rattle.machine_reads.specs.Places.{Place, at_place}
-use Rattle.machine_reads.specs.Tie.{Issued, a_round, a_repair, both, State, HasBase, GivesNext, HadThere, IsRound, IsRoundIn, IsPart, IsWalk, IsTied}
+use Rattle.machine_reads.specs.Tie.{Issued, a_round, a_repair, both, State, HasBase, GivesNext, HadThere, IsAllGone, IsConfirmed, IsRound, IsRoundIn, IsPart, IsWalk, IsTied}
 use Rattle.machine_reads.proofs.Leads.{Leads}
 use Rattle.machine_reads.proofs.Pairs.{among_rows}
 use Rattle.machine_reads.proofs.Sees.{newest_same}
@@ -55,13 +56,34 @@ some_there : {X : Type 0} (xs : List X) (x : X) → Has xs x → not (is_empty x
 some_there [] x h = absurd h
 some_there (y ∷ xs) x h = refl
 
--- where each passes none is left that fails
-none_fail : {X : Type 0} (f : X → Bool) (xs : List X) → AllByRecursion (λ x. f x ≡ true) xs → filter (λ x. not (f x)) xs ≡ []
-none_fail f [] a = refl
-none_fail f (x ∷ xs) a = ap (λ b. cond (not b) (x ∷ filter (λ x. not (f x)) xs) (filter (λ x. not (f x)) xs)) a.0 ∙ none_fail f xs a.1
+each_over : {R : Type 0} {join : R → R → R} → JoinLaws join → (o q : Option R) → ((x : R) → IsAtLeast join q x → IsAtLeast join o x) → IsOver join o q
+each_over laws o None f = tt
+each_over laws o (Some y) f = f y (laws.idempotent y)
+
+not_true : (b : Bool) → not b ≡ true → b ≡ false
+not_true true e = cc
+not_true false e = refl
+
+-- those that are left pass the test too
+all_passing : {X : Type 0} (P : X → Type 0) (f : X → Bool) (xs : List X) → AllByRecursion P xs → AllByRecursion (λ x. P x × (f x ≡ true)) (filter f xs)
+all_passing P f [] a = tt
+all_passing P f (x ∷ xs) a = elim (f x) as (λ b. f x ≡ b → AllByRecursion (λ x. P x × (f x ≡ true)) (cond b (x ∷ filter f xs) (filter f xs))) [
+  | true ↦ (λ e. ((a.0, e), all_passing P f xs a.1))
+  | false ↦ (λ e. all_passing P f xs a.1)
+] refl
 
 pub all_inside : (set : List ℕ) → AllByRecursion (λ n. Contains set n) set
 all_inside set = recursion_from_All (λ n. Contains set n) set (All-contains_itself set)
+
+-- what holds of each node of these partitions holds of their confirmations
+all_confirmations : (Is : ℕ → ℕ → Type 0) (nodes : Part → List ℕ) (parts : List Part) → AllByRecursion (λ (part : Part). (n : ℕ) → Is part.partition n) parts → AllByRecursion (λ (c : machine.Confirmed). Is c.partition c.node) (confirmations nodes parts)
+all_confirmations Is nodes [] a = tt
+all_confirmations Is nodes (part ∷ parts) a =
+    all_append (λ (c : machine.Confirmed). Is c.partition c.node) (map (λ n. record { partition = part.partition; node = n }) (nodes part)) (confirmations nodes parts) (each (nodes part)) (all_confirmations Is nodes parts a.1)
+  where
+    each : (ns : List ℕ) → AllByRecursion (λ (c : machine.Confirmed). Is c.partition c.node) (map (λ n. record { partition = part.partition; node = n }) ns)
+    each [] = tt
+    each (n ∷ ns) = (a.0 n, each ns)
 
 module _ {R L : Type 0} (join : R → R → R) (s : Words R) (k : Layouts L) (partitions : ℕ) (H : List ℕ → Type 0) (some : 1 ≤ partitions) (joins_well : JoinLaws join) (laws : Laws join s) where
   -- the table of what is at a place of a partition is among those over which a walk begins
@@ -79,11 +101,14 @@ module _ {R L : Type 0} (join : R → R → R) (s : Words R) (k : Layouts L) (pa
   -- a walk that begins accounts for each key
   pub new_walk : (new : State join s k partitions H) (h : Issued R L) (rd : plane.Round Place R) (y : Node R L) (part to : ℕ) → AllByRecursion (λ r. IsTrue (s.is_proper r)) y.accepted →
       HasBase join s k partitions H new h rd part ((both join s k partitions H).control.newest new.control rd.node) → GivesNext join s k partitions H new h rd part to →
-      ((q : Place) (r : R) → HadThere join s k partitions H rd part q r → IsAtLeast join (at_place s join y.accepted q) r) → IsWalk join s k partitions H new h rd (walk_with join s y part to)
+      ((q : Place) (r : R) → HadThere join s k partitions H rd part q r → IsAtLeast join (at_place s join y.accepted q) r ⊎ IsGone (both join s k partitions H) new.log q r) → IsWalk join s k partitions H new h rd (walk_with join s y part to)
   new_walk new h rd y part to proper base given over = record {
     base = base;
     given = given;
-    covers = λ q r had. inr (inr (under_start (tables_of s (rows_at join s y part)) (walk_with join s y part to).state.prefixes q.1.0 (blake2b 32 q.1.1) refl (tables_have y part q r proper had.0 (over q r had))));
+    covers = λ q r had. elim (over q r had) [
+      | inl has ↦ inr (inr (under_start (tables_of s (rows_at join s y part)) (walk_with join s y part to).state.prefixes q.1.0 (blake2b 32 q.1.1) refl (tables_have y part q r proper had.0 has)))
+      | inr gone ↦ inl (inr gone)
+    ];
   }
 
   -- what holds of each walk that begins
@@ -125,23 +150,29 @@ module _ {R L : Type 0} (join : R → R → R) (s : Words R) (k : Layouts L) (pa
       abbrev walks : List Walk
       walks = new_walks join s k (w.nodes n) x
 
-      over : (part : Part) → Is part → (q : Place) (r : R) → HadThere join s k partitions H rd part.partition q r → IsAtLeast join (at_place s join (w.nodes n).accepted q) r
+      over : (part : Part) → Is part → (q : Place) (r : R) → HadThere join s k partitions H rd part.partition q r → IsAtLeast join (at_place s join (w.nodes n).accepted q) r ⊎ IsGone (both join s k partitions H) p.log q r
       over part is = own_over join s k partitions H some joins_well laws w p g sound t A C clear n x e m part.partition is.base.mine
 
       given : (part : Part) → Is part → AllByRecursion (λ i. GivesNext join s k partitions H p g rd part.partition i) (open_nodes x part)
       given part is = all_filter _ _ part.set (subst (λ set. AllByRecursion (λ i. Contains set i) part.set) is.set_is (all_inside part.set))
 
-      -- what the node had of a partition it has still, so that none is empty
-      has_still_rows : (part : Part) → Is part → has_rows join s y part.partition ≡ true
-      has_still_rows part is =
-          let there = at_least_some join (at_place s join y.accepted is.filled.at) is.filled.row (over part is is.filled.at is.filled.row is.filled.had) in
-          some_there (rows_at join s y part.partition) there.0 (among_rows joins_well laws y.accepted part.partition is.filled.at there.0 (t.nodes n).proper is.filled.had.0 there.1).0
+      -- where no row of a partition is left all that the node had was collected
+      all_gone : (part : Part) → Is part → has_rows join s y part.partition ≡ false → IsAllGone join s k partitions H p g rd part.partition
+      all_gone part is none q e = each_over joins_well (collected_at (both join s k partitions H) p.log q) (log_at (both join s k partitions H) rd.log rd.node q) (λ r had. elim (over part is q r (e, had)) [
+        | inl has ↦
+            let there = at_least_some join (at_place s join y.accepted q) r has in
+            absurd (let no : true ≡ false = sym (some_there (rows_at join s y part.partition) there.0 (among_rows joins_well laws y.accepted part.partition q there.0 (t.nodes n).proper e there.1).0) ∙ none in cc)
+        | inr gone ↦ gone
+      ])
 
       open_ones : AllByRecursion Is (open_parts x)
       open_ones = all_filter Is _ x.parts m.all_parts
 
-      none_emptied : emptied_parts join s k (w.nodes n) x ≡ []
-      none_emptied = none_fail (λ (part : Part). has_rows join s y part.partition) (open_parts x) (all_weaker Is _ has_still_rows (open_parts x) open_ones)
+      -- so each that is confirmed for want of rows is confirmed
+      emptied : AllByRecursion (λ (c : machine.Confirmed). IsConfirmed join s k partitions H p g rd c.partition c.node) (confirmations (open_nodes x) (emptied_parts join s k y x))
+      emptied = all_confirmations (IsConfirmed join s k partitions H p g rd) (open_nodes x) (emptied_parts join s k y x)
+          (all_weaker _ _ (λ (part : Part) (is : Is part × (not (has_rows join s y part.partition) ≡ true)). λ i. inr (all_gone part is.0 (not_true (has_rows join s y part.partition) is.1)))
+          (emptied_parts join s k y x) (all_passing Is (λ (part : Part). not (has_rows join s y part.partition)) (open_parts x) open_ones))
 
       filled_ones : AllByRecursion (λ part. Is part × (list_all (is_spelled s) (rows_at join s (w.nodes n) part.partition) ≡ true)) (filled_parts join s k (w.nodes n) x)
       filled_ones = spelled_parts Is y (filled_parts join s k (w.nodes n) x) (all_filter Is _ (open_parts x) open_ones) spelled
@@ -173,8 +204,7 @@ module _ {R L : Type 0} (join : R → R → R) (s : Words R) (k : Layouts L) (pa
         node = m.node;
         target = m.target;
         known = m.known;
-        confirmed = all_append _ x.confirmed (confirmations (open_nodes x) (emptied_parts join s k y x)) m.confirmed
-            (subst (λ ps. AllByRecursion (λ (c : machine.Confirmed). HasPushed p m.round c.partition c.node) (confirmations (open_nodes x) ps)) (sym none_emptied) tt);
+        confirmed = all_append _ x.confirmed (confirmations (open_nodes x) (emptied_parts join s k y x)) m.confirmed emptied;
         parts = m.parts;
         all_parts = m.all_parts;
         walks = all_append _ walks _ fresh (all_filter _ _ x.walks m.walks);

@@ -18,9 +18,10 @@ use Rattle.walk_model.proofs.Prefixes.{same_from}
 use Rattle.wire_messages.specs.declared.message.Tag.{Tag}
 use Rattle.plane_model.specs.Rows.{IsAtLeast}
 use Rattle.plane_model.specs.World as plane
-use Rattle.plane_model.specs.World.{row_at as log_at, row_in, kept_at}
+use Rattle.plane_model.specs.World.{row_at as log_at, collected_at, row_in, kept_at}
+use Rattle.plane_model.specs.Kept.{Holds, IsGone}
 use Rattle.plane_model.specs.Action.{takes_push, run, Happens, MayTakePush}
-use Rattle.plane_laws.proofs.Rows.{over_each, holds_row}
+use Rattle.plane_laws.proofs.Rows.{over_or, holds_row}
 use Rattle.plane_laws.proofs.Runs.{run_append, happens_append}
 use Rattle.plane_laws.proofs.Sets.{contains_here}
 use Rattle.plane_laws.proofs.Sound.{IsSound}
@@ -121,6 +122,8 @@ module _ {R L : Type 0} (join : R → R → R) (s : Words R) (k : Layouts L) (pa
         messages = all_weaker _ _ (means_grows join s k partitions H p mid g g mid_grown) w.messages t.messages;
         not_asked = t.not_asked;
         not_stored = t.not_stored;
+        collected = λ q. ap (λ l. collected_at P l q) same_log ∙ t.collected q;
+        proper_collected = t.proper_collected;
         reads = t.reads;
       }
 
@@ -140,6 +143,8 @@ module _ {R L : Type 0} (join : R → R → R) (s : Words R) (k : Layouts L) (pa
             sends = subst (λ (z : State join s k partitions H). AllByRecursion (Means join s k partitions H z l.issued) e.sends) same l.sends;
             not_asked = l.not_asked;
             not_stored = l.not_stored;
+            collected = subst (λ (z : State join s k partitions H). (q : Place) → collected_at P z.log q ≡ at_place s join (e.collects ++ w.collected) q) same l.collected;
+            proper_collected = l.proper_collected;
             reads = l.reads;
           }
 
@@ -162,7 +167,7 @@ module _ {R L : Type 0} (join : R → R → R) (s : Words R) (k : Layouts L) (pa
           quietly join s k partitions H some joins_well w p g g n (record (answers (w.nodes n) from (compared join s k (w.nodes n) tag part table prefix hash)) { is_spelled = b }) [] sound t (record { same = same_self (w.nodes n); posts = (tt, tt) }) tt refl refl refl (issues_self g)
           (λ i d. same_at join s k partitions H g (length w.requests) i) refl (t.nodes n)
           (compared_means join s k partitions H some joins_well laws w p g sound t A C clear n from 0 named part table prefix hash (omega arith) spelled may tag m, tt)
-          t.not_asked t.not_stored tt
+          t.not_asked t.not_stored (refl, tt)
 
       -- what an answer's question was for
       base_of : (rd : plane.Round Place R) (part table : ℕ) (prefix : List ℕ) (answer : Option (List (ℕ × Hash32))) (from : ℕ) → IsAnswer join s k partitions H p g rd part table prefix answer from →
@@ -232,12 +237,15 @@ module _ {R L : Type 0} (join : R → R → R) (s : Words R) (k : Layouts L) (pa
             | inl held ↦ inr held
             | inr rest ↦ elim rest [
               | inl noted ↦
-                  let over = own_over join s k partitions H some joins_well laws w p g sound t A C clear n x open_now m part is.base.mine q r had in
-                  let there = at_least_some join (at_place s join (w.nodes n).accepted q) r over in
-                  let z = there.0 in
-                  let found = picked joins_well laws (w.nodes n).accepted part (is_noted s later.state.noted) q z (t.nodes n).proper had.0 there.1
-                  (λ here. noted_passes join s later.state.noted z (subst (λ (a : Place). Noted later.state.noted a.1.0 (blake2b 32 a.1.1)) (sym here) noted)) in
-                  inl (subst (λ o. IsAtLeast join o r) (there.1 ∙ sym found) over)
+                  elim (own_over join s k partitions H some joins_well laws w p g sound t A C clear n x open_now m part is.base.mine q r had) [
+                    | inl over ↦
+                        let there = at_least_some join (at_place s join (w.nodes n).accepted q) r over in
+                        let z = there.0 in
+                        let found = picked joins_well laws (w.nodes n).accepted part (is_noted s later.state.noted) q z (t.nodes n).proper had.0 there.1
+                        (λ here. noted_passes join s later.state.noted z (subst (λ (a : Place). Noted later.state.noted a.1.0 (blake2b 32 a.1.1)) (sym here) noted)) in
+                        inl (subst (λ o. IsAtLeast join o r) (there.1 ∙ sym found) over)
+                    | inr gone ↦ inr (inr gone)
+                  ]
               | inr under ↦ absurd (subst (λ l. UnderOpen l q.1.0 (blake2b 32 q.1.1)) (empty_is later.state.prefixes ended) under)
             ]
           ];
@@ -260,7 +268,7 @@ module _ {R L : Type 0} (join : R → R → R) (s : Words R) (k : Layouts L) (pa
             (record { same = record { view = refl; calls = refl; round = ap (Rattle.std.specs.Prelude.option_map target_of) (sym open_now) }; posts = said_after join s k (w.nodes n) x.number later table asked }) tt refl refl refl (issues_self g)
             (λ i d. same_at join s k partitions H g (length w.requests) i) refl
             (record { rows = (t.nodes n).rows; proper = (t.nodes n).proper; calls = (t.nodes n).calls; round = round_now; mending = (t.nodes n).mending; lasting = (t.nodes n).lasting; later_rounds = (t.nodes n).later_rounds })
-            sends t.not_asked t.not_stored tt
+            sends t.not_asked t.not_stored (refl, tt)
 
         -- ---- the walk ends, and found nothing to push
 
@@ -268,16 +276,19 @@ module _ {R L : Type 0} (join : R → R → R) (s : Words R) (k : Layouts L) (pa
           base : HasBase join s k partitions H p g m.round part (P.control.newest p.control v.node)
           base = base_of m.round part table prefix answer v.node says
 
+          held_or_gone : (i : ℕ) (q : Place) (r : R) (node : ℕ) → P.control.oldest p.control node ≤ i → Holds P p.control p.log i q r node ⊎ IsGone P p.log q r → IsAtLeast join (log_at P p.log node q) r ⊎ IsGone P p.log q r
+          held_or_gone i q r node old held = elim held [ inl has ↦ inl (holds_row P (laws_of join s k partitions H some joins_well) p.control p.log i q r node has old) | inr gone ↦ inr gone ]
+
           may : MayTakePush P p base.push v.node []
           may = record {
             was_pushed = base.is_there;
             knows = base.newest;
-            has = λ old q e. over_each joins_well (log_at P p.log v.node q) (row_in P base.push.rows q) (λ r least.
+            has = λ old q e. over_or joins_well (log_at P p.log v.node q) (collected_at P p.log q) (row_in P base.push.rows q) (λ r least.
                 let part_is : q.0 ≡ part = e ∙ base.partition_is in
                 let had : HadThere join s k partitions H m.round part q r = (part_is, subst (λ o. IsAtLeast join o r) (base.rows_are q part_is) least) in
                 let target : suc base.push.round.from ≡ suc m.round.from = ap (λ (i : plane.Round Place R). suc i.from) base.of_it in
                 elim (goes.covers q r had) [
-                  | inl held ↦ holds_row P (laws_of join s k partitions H some joins_well) p.control p.log (suc m.round.from) q r v.node held (subst (λ i. P.control.oldest p.control v.node ≤ i) target old)
+                  | inl held ↦ held_or_gone (suc m.round.from) q r v.node (subst (λ i. P.control.oldest p.control v.node ≤ i) target old) held
                   | inr rest ↦ elim rest [
                     | inl noted ↦ absurd (subst (λ l. Noted l q.1.0 (blake2b 32 q.1.1)) (empty_is later.state.noted none) noted)
                     | inr under ↦ absurd (subst (λ l. UnderOpen l q.1.0 (blake2b 32 q.1.1)) (empty_is later.state.prefixes ended) under)
@@ -327,7 +338,7 @@ module _ {R L : Type 0} (join : R → R → R) (s : Words R) (k : Layouts L) (pa
                 node = stays.node;
                 target = stays.target;
                 known = stays.known;
-                confirmed = all_append _ x.confirmed (record { partition = part; node = v.node } ∷ []) stays.confirmed (inr (subst (λ (b : Begun R). IsPushedOf join s k partitions H (run P p confirms) g b part v.node) (some_same (a_round m.round) (a_round stays.round) (sym m.issued ∙ stays.issued)) is_pushed), tt);
+                confirmed = all_append _ x.confirmed (record { partition = part; node = v.node } ∷ []) stays.confirmed (inl (inr (subst (λ (b : Begun R). IsPushedOf join s k partitions H (run P p confirms) g b part v.node) (some_same (a_round m.round) (a_round stays.round) (sym m.issued ∙ stays.issued)) is_pushed)), tt);
                 parts = stays.parts;
                 all_parts = stays.all_parts;
                 walks = stays.walks;
@@ -360,4 +371,4 @@ module _ {R L : Type 0} (join : R → R → R) (s : Words R) (k : Layouts L) (pa
                 (passing (is_spelled s) (is_noted s later.state.noted) (rows_at join s y part) spelled) tt
             | false ↦ sent_further join s k partitions H some joins_well laws w n p g x.number a_repair issued y part v.node table asked tt tt
           ])
-          t.not_asked t.not_stored tt
+          t.not_asked t.not_stored (refl, tt)

@@ -27,6 +27,7 @@ use Rattle.wire_messages.specs.declared.message.Tag.TheVariants.{Call as ForCall
 use Rattle.plane_model.specs.Rows.{IsAtLeast}
 use Rattle.plane_model.specs.World as plane
 use Rattle.plane_model.specs.World.{row_at as log_at, row_in}
+use Rattle.plane_model.specs.Kept.{IsGone}
 use Rattle.plane_laws.proofs.Sound.{IsSound}
 use Rattle.plane_laws.proofs.Steps.{has_still}
 use Rattle.cluster_machine.specs.Layouts.{Layouts}
@@ -41,7 +42,7 @@ use Rattle.cluster_machine.specs.World.{World}
 use Rattle.cluster_machine.specs.Step.{sent_by}
 use Rattle.machine_reads.specs.Places.{Place, at_place}
 use Rattle.machine_reads.specs.Hashed.{trie, AreHashed}
-use Rattle.machine_reads.specs.Tie.{Issued, Begun, a_round, a_repair, both, State, HasBase, GivesNext, HoldsFor, HadThere, IsPushOf, IsAsk, IsAskOf, MeansValue, MeansReply, IsAnswer, IsAnswerOf, MeansMessage, Means, IsRound, IsWalk, IsTied}
+use Rattle.machine_reads.specs.Tie.{Issued, Begun, a_round, a_repair, both, State, HasBase, GivesNext, HoldsFor, HadThere, IsBelow, IsPushOf, IsAsk, IsAskOf, MeansValue, MeansReply, IsAnswer, IsAnswerOf, MeansMessage, Means, IsRound, IsWalk, IsTied}
 use Rattle.machine_reads.proofs.Pairs.{set_of, inputs_hashed, clear_at, pair_at, shown_same}
 use Rattle.machine_reads.proofs.Growth.{base_grows}
 use Rattle.machine_reads.proofs.Leads.{issues_self, laws_of, grown}
@@ -66,13 +67,13 @@ module _ {R L : Type 0} (join : R → R → R) (s : Words R) (k : Layouts L) (pa
   -- ---- what a node sends for a walk
 
   module _ (w : World R L) (n : ℕ) (new : State join s k partitions H) (h : Issued R L) (number : ℕ) (b : Begun R) (issued : h.rounds n number ≡ Some b) (y : Node R L) where
-    -- a node may ask for a round whose rows it has still
+    -- a node may ask for a round whose rows it has still, but those that were collected
     pub record CanAsk (rd : plane.Round Place R) (part to : ℕ) : Type 0 where
       pub base : HasBase join s k partitions H new h rd part (newest k.reading y.view)
       pub given : GivesNext join s k partitions H new h rd part to
       pub proper : AllByRecursion (λ r. IsTrue (s.is_proper r)) y.accepted
       pub spelled : list_all (is_spelled s) (rows_at join s y part) ≡ true
-      pub over : (q : Place) (x : R) → HadThere join s k partitions H rd part q x → IsAtLeast join (at_place s join y.accepted q) x
+      pub over : (q : Place) (x : R) → HadThere join s k partitions H rd part q x → IsAtLeast join (at_place s join y.accepted q) x ⊎ IsGone P new.log q x
 
     abbrev pub MayAsk : Begun R → ℕ → ℕ → Type 0
     MayAsk (a_round rd) part to = CanAsk rd part to
@@ -144,22 +145,24 @@ module _ {R L : Type 0} (join : R → R → R) (s : Words R) (k : Layouts L) (pa
     here_hashed : (n part : ℕ) → list_all (is_spelled s) (rows_at join s (w.nodes n) part) ≡ true → MayCompare n part → AreHashed join s H (w.nodes n).accepted part
     here_hashed n part spelled may = record { proper = (t.nodes n).proper; spelled = spelled; hashed = may }
 
-    -- the node of an open round has what it had when the round began
+    -- the node of an open round has what it had when the round began, or it was collected
     pub own_over : (n : ℕ) (x : machine.Round) (e : (w.nodes n).round ≡ Some x) (m : IsRound join s k partitions H p g n x) (part : ℕ) → Contains (P.control.set p.control m.round.from part) m.round.node →
-        (q : Place) (r : R) → HadThere join s k partitions H m.round part q r → IsAtLeast join (at_place s join (w.nodes n).accepted q) r
-    own_over n x e m part mine q r had =
-        subst (λ o. IsAtLeast join o r) (ap (λ i. log_at P p.log i q) m.node ∙ (t.nodes n).rows q)
+        (q : Place) (r : R) → HadThere join s k partitions H m.round part q r → IsAtLeast join (at_place s join (w.nodes n).accepted q) r ⊎ IsGone P p.log q r
+    own_over n x e m part mine q r had = elim
         (has_still P (laws_of join s k partitions H some joins_well) p sound m.round m.is_there (open_by join s k partitions H some joins_well laws A C w p g sound t n x m e) q r
-        (subst (λ i. Contains (P.control.set p.control m.round.from i) m.round.node) (sym had.0) mine) had.1)
+        (subst (λ i. Contains (P.control.set p.control m.round.from i) m.round.node) (sym had.0) mine) had.1) [
+          | inl has ↦ inl (subst (λ o. IsAtLeast join o r) (ap (λ i. log_at P p.log i q) m.node ∙ (t.nodes n).rows q) has)
+          | inr gone ↦ inr gone
+        ]
 
     -- what a node has now it holds for a version that it knows and that gives it the partition
     pub holds_now : (rd : plane.Round Place R) (part n : ℕ) (q : Place) (r : R) → suc rd.from ≤ P.control.newest p.control n → GivesNext join s k partitions H p g rd part n → q.0 ≡ part →
         IsAtLeast join (at_place s join (w.nodes n).accepted q) r → HoldsFor join s k partitions H p g rd n q r
-    holds_now rd part n q r knows given e has = record {
+    holds_now rd part n q r knows given e has = inl (record {
       is_given = subst (λ i. Contains (P.control.set p.control (suc rd.from) i) n) (sym e) given;
       knows = knows;
       has = inr (subst (λ o. IsAtLeast join o r) (sym ((t.nodes n).rows q)) has);
-    }
+    })
 
     base_at : (rd : plane.Round Place R) (part named more : ℕ) → named ≤ more → HasBase join s k partitions H p g rd part named → HasBase join s k partitions H p g rd part more
     base_at rd part named more low m = base_grows join s k partitions H p p g g (grown join s k partitions H some joins_well p g g [] sound tt (issues_self g)) rd part named more low m
@@ -177,27 +180,32 @@ module _ {R L : Type 0} (join : R → R → R) (s : Words R) (k : Layouts L) (pa
       next_known : suc rd.from ≤ P.control.newest p.control n
       next_known = let a : suc rd.from ≤ ask.base.push.newest = ask.base.next in let b : ask.base.push.newest ≤ named = ask.base.newest in omega arith
 
-      -- where both values are one, the node has what the other had
+      -- where both values are one, the node has what the other has
+      same_there : hash ≡ value_at digest prefix (trie join s H (w.nodes n).accepted table part) → (q : Place) (r : R) → HadThere join s k partitions H rd part q r → IsBelow join s k partitions H table prefix q →
+          IsAtLeast join (at_place s join ask.contents q) r → HoldsFor join s k partitions H p g rd n q r
+      same_there same q r had below over =
+          let there = at_least_some join (at_place s join ask.contents q) r over in
+          let a : Answer = record { table = table; own = trie join s H ask.contents table part; theirs = trie join s H (w.nodes n).accepted table part } in
+          let says : SameThere digest prefix a = record {
+            own_set = set_of joins_well laws H clear part table ask.contents ask.hashed;
+            their_set = set_of joins_well laws H clear part table (w.nodes n).accepted own;
+            values = sym ask.hash_is ∙ same;
+            clear = clear_at joins_well laws H clear (inputs_at digest prefix a.own) (inputs_at digest prefix a.theirs)
+                (inputs_hashed joins_well laws H clear part table ask.contents ask.hashed prefix) (inputs_hashed joins_well laws H clear part table (w.nodes n).accepted own prefix);
+          } in
+          let same_row : at_place s join (w.nodes n).accepted q ≡ Some there.0 = elim (told_same digest digest_length a table prefix [] [] refl says (digest q.1.1)
+          ((pair_of s there.0).1, pair_at joins_well laws H clear part table ask.contents ask.hashed q there.0 had.0 below.of_table there.1) below.short below.starts) [
+            | inl shows ↦ shown_same joins_well laws H clear part table ask.contents (w.nodes n).accepted ask.hashed own q there.0 had.0 below.of_table there.1 shows
+            | inr rest ↦ elim rest [ inl none ↦ absurd none | inr none ↦ absurd none ]
+          ] in
+          holds_now rd part n q r next_known ask.given had.0 (subst (λ o. IsAtLeast join o r) (there.1 ∙ sym same_row) over)
+
+      -- so it holds what the round's node had when the round began
       one_value : hash ≡ value_at digest prefix (trie join s H (w.nodes n).accepted table part) → IsAnswer join s k partitions H p g rd part table prefix None n
       one_value same = record {
         base = base_at rd part named (P.control.newest p.control n) knows ask.base;
         given = ask.given;
-        holds = λ q r had below.
-            let there = at_least_some join (at_place s join ask.contents q) r (ask.over q r had) in
-            let a : Answer = record { table = table; own = trie join s H ask.contents table part; theirs = trie join s H (w.nodes n).accepted table part } in
-            let says : SameThere digest prefix a = record {
-              own_set = set_of joins_well laws H clear part table ask.contents ask.hashed;
-              their_set = set_of joins_well laws H clear part table (w.nodes n).accepted own;
-              values = sym ask.hash_is ∙ same;
-              clear = clear_at joins_well laws H clear (inputs_at digest prefix a.own) (inputs_at digest prefix a.theirs)
-                  (inputs_hashed joins_well laws H clear part table ask.contents ask.hashed prefix) (inputs_hashed joins_well laws H clear part table (w.nodes n).accepted own prefix);
-            } in
-            let same_row : at_place s join (w.nodes n).accepted q ≡ Some there.0 = elim (told_same digest digest_length a table prefix [] [] refl says (digest q.1.1)
-            ((pair_of s there.0).1, pair_at joins_well laws H clear part table ask.contents ask.hashed q there.0 had.0 below.of_table there.1) below.short below.starts) [
-              | inl shows ↦ shown_same joins_well laws H clear part table ask.contents (w.nodes n).accepted ask.hashed own q there.0 had.0 below.of_table there.1 shows
-              | inr rest ↦ elim rest [ inl none ↦ absurd none | inr none ↦ absurd none ]
-            ] in
-            holds_now rd part n q r next_known ask.given had.0 (subst (λ o. IsAtLeast join o r) (there.1 ∙ sym same_row) (ask.over q r had));
+        holds = λ q r had below. elim (ask.over q r had) [ inl over ↦ same_there same q r had below over | inr gone ↦ inr gone ];
       }
 
       -- else it tells what it has
@@ -251,14 +259,12 @@ module _ {R L : Type 0} (join : R → R → R) (s : Words R) (k : Layouts L) (pa
       own_here : AreHashed join s H (w.nodes n).accepted part
       own_here = here_hashed n part spelled may
 
-      -- a key under the prefix is held, noted or asked for
-      told : (q : Place) (r : R) → HadThere join s k partitions H m.round part q r → (answer : Option (List (ℕ × Hash32))) → IsAnswer join s k partitions H p g m.round part table prefix answer v.node →
+      -- a key under the prefix of which the node has the row still is held, noted or asked for
+      told_here : (q : Place) (r : R) → HadThere join s k partitions H m.round part q r → IsAtLeast join (at_place s join (w.nodes n).accepted q) r → (pairs : List (ℕ × Hash32)) → IsAnswer join s k partitions H p g m.round part table prefix (Some pairs) v.node →
           table ≡ q.1.0 → length prefix < 32 → starts_with nat_eq (digest q.1.1) prefix ≡ true →
-          HoldsFor join s k partitions H p g m.round v.node q r ⊎ (Noted (noted_after join s (w.nodes n) part table prefix answer) q.1.0 (digest q.1.1) ⊎ UnderOpen (closed table prefix (map (λ p. (table, p)) (asked_after join s (w.nodes n) part table prefix answer))) q.1.0 (digest q.1.1))
-      told q r had None says e short under = inl (says.holds q r had (record { of_table = sym e; short = short; starts = under }))
-      told q r had (Some pairs) says e short under =
+          HoldsFor join s k partitions H p g m.round v.node q r ⊎ (Noted (noted_after join s (w.nodes n) part table prefix (Some pairs)) q.1.0 (digest q.1.1) ⊎ UnderOpen (closed table prefix (map (λ p. (table, p)) (asked_after join s (w.nodes n) part table prefix (Some pairs)))) q.1.0 (digest q.1.1))
+      told_here q r had over pairs says e short under =
           let mine = (w.nodes n).accepted in
-          let over = own_over n x open_now m part is.base.mine q r had in
           let there = at_least_some join (at_place s join mine q) r over in
           let a : Answer = record { table = table; own = trie join s H mine table part; theirs = trie join s H says.contents table part } in
           let set = set_of joins_well laws H clear part table mine own_here in
@@ -276,6 +282,16 @@ module _ {R L : Type 0} (join : R → R → R) (s : Words R) (k : Layouts L) (pa
                 inl (says.holds q r had.0 (subst (λ o. IsAtLeast join o r) (there.1 ∙ sym same_row) over))
             | inr rest ↦ elim rest [ inl noted ↦ inr (inl (subst Kept e noted)) | inr asked ↦ inr (inr (subst Asked e asked)) ]
           ]
+
+      -- a key under the prefix is held or collected, noted or asked for
+      told : (q : Place) (r : R) → HadThere join s k partitions H m.round part q r → (answer : Option (List (ℕ × Hash32))) → IsAnswer join s k partitions H p g m.round part table prefix answer v.node →
+          table ≡ q.1.0 → length prefix < 32 → starts_with nat_eq (digest q.1.1) prefix ≡ true →
+          HoldsFor join s k partitions H p g m.round v.node q r ⊎ (Noted (noted_after join s (w.nodes n) part table prefix answer) q.1.0 (digest q.1.1) ⊎ UnderOpen (closed table prefix (map (λ p. (table, p)) (asked_after join s (w.nodes n) part table prefix answer))) q.1.0 (digest q.1.1))
+      told q r had None says e short under = inl (says.holds q r had (record { of_table = sym e; short = short; starts = under }))
+      told q r had (Some pairs) says e short under = elim (own_over n x open_now m part is.base.mine q r had) [
+        | inl over ↦ told_here q r had over pairs says e short under
+        | inr gone ↦ inl (inr gone)
+      ]
 
       -- the walk goes on to account for each key
       pub walk_goes : (answer : Option (List (ℕ × Hash32))) → IsAnswer join s k partitions H p g m.round part table prefix answer v.node → IsWalk join s k partitions H p g m.round (walk_after join s (w.nodes n) v table prefix answer)

@@ -20,9 +20,9 @@ use Rattle.wire_messages.specs.declared.message.Tag.{Tag}
 use Rattle.wire_messages.specs.declared.message.Tag.TheVariants.{Call as ForCall, Round as ForRound, Item as ForItem}
 use Rattle.plane_model.specs.Plane.{Plane}
 use Rattle.plane_model.specs.World as plane
-use Rattle.plane_model.specs.World.{row_at as log_at, row_in, kept_at}
-use Rattle.plane_model.specs.Rows.{IsAtLeast}
-use Rattle.plane_model.specs.Kept.{Holds}
+use Rattle.plane_model.specs.World.{row_at as log_at, collected_at, row_in, kept_at}
+use Rattle.plane_model.specs.Rows.{IsAtLeast, IsOver as PlaneOver}
+use Rattle.plane_model.specs.Kept.{Holds, IsGone}
 use Rattle.plane_model.specs.Action.{HasPushed}
 use Rattle.plane_meets.specs.Joint.{joint}
 use Rattle.cluster_machine.specs.Layouts.{Layouts}
@@ -92,12 +92,6 @@ module _ {R L : Type 0} (join : R → R → R) (s : Words R) (k : Layouts L) (pa
   -- the row was at a place of the partition when the round began, or one above it was
   abbrev pub HadThere : plane.Round Place R → ℕ → Place → R → Type 0
   HadThere round partition q x = (q.0 ≡ partition) × IsAtLeast join (log_at both round.log round.node q) x
-
-  -- there was some row in the partition when the round began
-  pub record HadSome (round : plane.Round Place R) (partition : ℕ) : Type 0 where
-    pub at : Place
-    pub row : R
-    pub had : HadThere round partition at row
 
   -- a key hash that begins with a prefix of a table
   pub record IsBelow (table : ℕ) (prefix : List ℕ) (q : Place) : Type 0 where
@@ -181,9 +175,17 @@ module _ {R L : Type 0} (join : R → R → R) (s : Words R) (k : Layouts L) (pa
       pub issued : g.stores request phase slot ≡ Some store
       pub confirmed : Contains p.stored (record { store = store; node = from })
 
-    -- the node holds for the version that the round leads to what the round's node had at a place when the round began
+    -- the node holds for the version that the round leads to what the round's node had at a place when the round began, or it was collected
     abbrev pub HoldsFor : plane.Round Place R → ℕ → Place → R → Type 0
-    HoldsFor round n q x = Holds both p.control p.log (suc round.from) q x n
+    HoldsFor round n q x = Holds both p.control p.log (suc round.from) q x n ⊎ IsGone both p.log q x
+
+    -- all that the round's node had of a partition when the round began was collected
+    abbrev pub IsAllGone : plane.Round Place R → ℕ → Type 0
+    IsAllGone round partition = (q : Place) → q.0 ≡ partition → PlaneOver join (collected_at both p.log q) (log_at both round.log round.node q)
+
+    -- the node confirmed a partition of the round, or nothing is left to be confirmed
+    abbrev pub IsConfirmed : plane.Round Place R → ℕ → ℕ → Type 0
+    IsConfirmed round partition node = HasPushed p round partition node ⊎ IsAllGone round partition
 
     -- what the plane's round shows of a partition: what its node had when it began, under a version that is at most this one
     pub record HasBase (round : plane.Round Place R) (partition named : ℕ) : Type 0 where
@@ -217,13 +219,13 @@ module _ {R L : Type 0} (join : R → R → R) (s : Words R) (k : Layouts L) (pa
       pub issued : g.rounds from number ≡ Some begun
       pub push : IsPushOf begun partition named rows to
 
-    -- the value is that of rows that the round's node had since the round began, at least what it had then
+    -- the value is that of rows that the round's node had since the round began, at least what it had then and wasn't collected
     pub record IsAsk (round : plane.Round Place R) (partition named table : ℕ) (prefix hash : List ℕ) (to : ℕ) : Type 0 where
       pub base : HasBase round partition named
       pub given : GivesNext round partition to
       pub contents : List R
       pub hashed : AreHashed join s H contents partition
-      pub over : (q : Place) (x : R) → HadThere round partition q x → IsAtLeast join (at_place s join contents q) x
+      pub over : (q : Place) (x : R) → HadThere round partition q x → IsAtLeast join (at_place s join contents q) x ⊎ IsGone both p.log q x
       pub hash_is : hash ≡ value_at (blake2b 32) prefix (trie join s H contents table partition)
 
     -- a walk of a round, and one of a repair, which owes nothing
@@ -327,6 +329,7 @@ module _ {R L : Type 0} (join : R → R → R) (s : Words R) (k : Layouts L) (pa
     pub record IsAsking (request phase : ℕ) (q : machine.Question R) (answers : List (ℕ × Option R)) : Type 0 where
       pub question : Question R L
       pub issued : g.asks request phase ≡ Some (a_key question q.table q.key)
+      pub one_partition : (r : R) → IsTrue (s.is_proper r) → s.table r ≡ q.table → s.key r ≡ q.key → partition_of s r ≡ question.partition
       pub kept : kept_at both question.kept (question.partition, (q.table, q.key)) ≡ row_at join s q.kept q.table q.key
       pub answered : AllByRecursion (λ a. AtKey question q.table q.key a.0 a.1) answers
 
@@ -398,11 +401,10 @@ module _ {R L : Type 0} (join : R → R → R) (s : Words R) (k : Layouts L) (pa
       pub covers : (q : Place) (x : R) → HadThere round w.state.partition q x →
           HoldsFor round w.node q x ⊎ (Noted w.state.noted q.1.0 (blake2b 32 q.1.1) ⊎ UnderOpen w.state.prefixes q.1.0 (blake2b 32 q.1.1))
 
-    -- what a round moves of a partition, to the set of the next version: its node had rows of it when the round began
+    -- what a round moves of a partition, to the set of the next version
     pub record IsPart (round : plane.Round Place R) (part : machine.Part) : Type 0 where
       pub base : HasBase round part.partition (both.control.newest p.control round.node)
       pub set_is : part.set ≡ both.control.set p.control (suc round.from) part.partition
-      pub filled : HadSome round part.partition
 
     -- the plane has the node's round: what it pushes, and who confirmed
     pub record IsRound (n : ℕ) (x : machine.Round) : Type 0 where
@@ -412,8 +414,8 @@ module _ {R L : Type 0} (join : R → R → R) (s : Words R) (k : Layouts L) (pa
       pub node : round.node ≡ n
       pub target : suc round.from ≡ x.target
       pub known : x.target ≤ both.control.newest p.control n
-      pub confirmed : AllByRecursion (λ (c : machine.Confirmed). HasPushed p round c.partition c.node) x.confirmed
-      pub parts : (partition : ℕ) → Contains (both.control.set p.control round.from partition) n → ((q : Place) → q.0 ≡ partition → log_at both round.log n q ≡ None) ⊎ HasPart x.parts x.target partition
+      pub confirmed : AllByRecursion (λ (c : machine.Confirmed). IsConfirmed round c.partition c.node) x.confirmed
+      pub parts : (partition : ℕ) → Contains (both.control.set p.control round.from partition) n → IsAllGone round partition ⊎ HasPart x.parts x.target partition
       pub all_parts : AllByRecursion (IsPart round) x.parts
       pub walks : AllByRecursion (IsWalk round) x.walks
 
@@ -454,4 +456,6 @@ module _ {R L : Type 0} (join : R → R → R) (s : Words R) (k : Layouts L) (pa
     pub messages : AllByRecursion (Means p g) w.messages
     pub not_asked : (request phase : ℕ) → length w.requests < request → g.asks request phase ≡ None
     pub not_stored : (request phase slot : ℕ) → length w.requests < request → g.stores request phase slot ≡ None
-    pub reads : AllByRecursion (GaveKept join s) w.reads
+    pub collected : (q : Place) → collected_at both p.log q ≡ at_place s join w.collected q
+    pub proper_collected : AllByRecursion (λ r. IsTrue (s.is_proper r)) w.collected
+    pub reads : AllByRecursion (GaveKept join s w.collected) w.reads

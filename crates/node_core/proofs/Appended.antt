@@ -25,5 +25,6 @@ appended_stands join s c new l id x rest next view is =
       contents = same_contents x v x.calls x.round x.rounds x.mending x.lasting is.contents;
       calls = is.calls;
       rounds = is.rounds;
+      gc = is.gc;
       has_version = version_stays x.view v x.calls (grows l x.view (next ∙ ap (λ w. newest reading w + 1) is.view)) is.has_version;
     })

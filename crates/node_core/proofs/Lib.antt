@@ -5,3 +5,5 @@ pub mod Replies
 pub mod Stored
 pub mod Walked
 pub mod Appended
+pub mod DropNone
+pub mod Collections

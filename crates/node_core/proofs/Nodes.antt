@@ -64,6 +64,7 @@ with_rounds c id x rounds round begun mending lasting is are = record {
   contents = same_contents x x.view x.calls round begun mending lasting is.contents;
   calls = is.calls;
   rounds = are;
+  gc = is.gc;
   has_version = is.has_version;
 }
 
@@ -77,6 +78,7 @@ apart c id x round is = record {
   begun = is.rounds.begun;
   mending_is = is.rounds.mending_is;
   lasting_is = is.rounds.lasting_is;
+  gc = is.gc;
   has_version = is.has_version;
 }
 
@@ -89,6 +91,7 @@ together c id x m r is moving = record {
   contents = same_contents x x.view x.calls (Some r) x.rounds x.mending x.lasting is.contents;
   calls = is.calls;
   rounds = record { is_open = moving; begun = is.begun; mending_is = is.mending_is; lasting_is = is.lasting_is };
+  gc = is.gc;
   has_version = is.has_version;
 }
 
@@ -146,6 +149,7 @@ with_contents c id x y contents is became =
         mending_is = subst (λ m. AreMended c.rounds.mending m) (sym rest.mending) is.rounds.mending_is;
         lasting_is = subst (λ m. AreMended c.rounds.lasting m) (sym rest.lasting) is.rounds.lasting_is;
       };
+      gc = is.gc ∙ sym rest.gc;
       has_version = subst (λ v. HasVersion v y.calls) (sym rest.view) (subst (λ calls. HasVersion x.view calls) (sym rest.calls) is.has_version);
     }
 
@@ -162,6 +166,7 @@ seen c id x v rounds round is closed = record {
   contents = same_contents x v x.calls round x.rounds x.mending x.lasting is.contents;
   calls = is.calls;
   rounds = closed;
+  gc = is.gc;
   has_version = is.has_version;
 }
 
@@ -218,3 +223,15 @@ pub put_back : {S R : Type 0} {join : R → R → R} {s : Words R} (c : Node S R
 put_back c id x m there is =
     with_rounds c id x (record c.rounds { round = Some m }) x.round x.rounds x.mending x.lasting is
     (record { is_open = subst (λ o. IsOpen id o x.round) there is.rounds.is_open; begun = is.rounds.begun; mending_is = is.rounds.mending_is; lasting_is = is.rounds.lasting_is })
+
+-- a delete marker that is to be handed out has nothing to do with the node's state
+pub with_dropped : {S R : Type 0} {join : R → R → R} {s : Words R} (c : Node S R) (id : ℕ) (x : Model R Layout) (dropped : Option (ℕ × ℕ)) → StandsFor join s c id x → StandsFor join s (record c { dropped = dropped }) id x
+with_dropped c id x dropped is = record {
+  id_is = is.id_is;
+  view = is.view;
+  contents = is.contents;
+  calls = is.calls;
+  rounds = is.rounds;
+  gc = is.gc;
+  has_version = is.has_version;
+}

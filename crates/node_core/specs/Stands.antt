@@ -33,6 +33,10 @@ HasVersion v (c ∷ cs) = IsTrue (leb 1 (newest reading v))
 abbrev pub view_of : {S R : Type 0} → Node S R → View Layout
 view_of node = known node.view
 
+-- the delete marker that is to be handed out
+abbrev pub dropped_of : {S R : Type 0} → Node S R → Option (ℕ × ℕ)
+dropped_of node = node.dropped
+
 -- what the node sends in a round or a repair with this number
 abbrev pub sender_of : {S R : Type 0} → Node S R → ℕ → Sender
 sender_of node round = record { node = node.id; newest = newest reading (known node.view); round = round; alloc = node.alloc }
@@ -44,6 +48,7 @@ pub record StandsFor {S R : Type 0} (join : R → R → R) (s : Words R) (c : No
   pub contents : IsContents join s c.contents x
   pub calls : AreCalls c.calls x.calls
   pub rounds : AreRounds id c.rounds x.round x.rounds x.mending x.lasting
+  pub gc : c.gc ≡ x.gc
   pub has_version : HasVersion x.view x.calls
 
 -- the same, whatever round is open
@@ -55,6 +60,7 @@ pub record StandsApart {S R : Type 0} (join : R → R → R) (s : Words R) (c : 
   pub begun : c.rounds.begun ≡ x.rounds
   pub mending_is : AreMended c.rounds.mending x.mending
   pub lasting_is : AreMended c.rounds.lasting x.lasting
+  pub gc : c.gc ≡ x.gc
   pub has_version : HasVersion x.view x.calls
 
 -- the same of a node whose view has just become v
@@ -64,6 +70,7 @@ pub record StandsButView {S R : Type 0} (join : R → R → R) (s : Words R) (c 
   pub contents : IsContents join s c.contents x
   pub calls : AreCalls c.calls x.calls
   pub rounds : AreRounds id c.rounds x.round x.rounds x.mending x.lasting
+  pub gc : c.gc ≡ x.gc
   pub has_version : HasVersion v x.calls
 
 -- a request, and how its phase ended, where one did
@@ -86,6 +93,7 @@ pub record Done {S R : Type 0} (join : R → R → R) (s : Words R) (new : Node 
 pub record Fits {R : Type 0} (s : Words R) (d : Did R Layout) : Type 0 where
   pub items : Holds s d.node
   pub rounds : d.node.rounds < 2 ^ 64
+  pub collections : d.node.gc.begun < 2 ^ 64
   pub phases : AllByRecursion (λ (c : Opened R). c.phases < 2 ^ 32) d.node.calls
   pub spelled : IsTrue d.is_spelled
 
@@ -93,6 +101,14 @@ module _ {S R : Type 0} (join : R → R → R) (s : Words R) where
   -- whatever node the code's node stood for, the call did what f does to it
   abbrev pub Does : Node S R → Node S R → List (Envelope R) → List (Envelope R) → Option (ℕ × PhaseEnd R) → (ℕ → Model R Layout → Did R Layout) → Type 0
   Does old new old_out new_out given f = (id : ℕ) → ties.Steps (λ v x. StandsFor join s v id x) old (λ x. Done join s new id old_out new_out given (f id x))
+
+  -- the row that f drops, if it does, has this delete marker
+  abbrev pub HasDropped : Node S R → Option (ℕ × ℕ) → (ℕ → Model R Layout → Did R Layout) → Type 0
+  HasDropped old dropped f = (id : ℕ) → ties.Steps (λ v x. StandsFor join s v id x) old (λ x. dropped ≡ (f id x).dropped)
+
+  -- the call did what f does, and the row that it dropped had this delete marker
+  abbrev pub Drops : Node S R → Node S R → List (Envelope R) → List (Envelope R) → Option (ℕ × ℕ) → (ℕ → Model R Layout → Did R Layout) → Type 0
+  Drops old new old_out new_out dropped f = Does old new old_out new_out None f × HasDropped old dropped f
 
   -- the same of an action, which ends so
   abbrev pub Acts : Node S R → Node S R → List (Envelope R) → List (Envelope R) → LocalEnd → (ℕ → Model R Layout → Acted R Layout) → Type 0

@@ -15,10 +15,14 @@
 //! A row that needs a block comes with it (`PacketCarriesBlocks`), and goes with it to other nodes. The node keeps the
 //! block as long as a row needs it; `Action::Work` deletes blocks that none has needed for ten minutes.
 //!
+//! A node collects delete markers with all others (src/collecting.rt): `Action::Collect` begins collections and goes on
+//! with them, and where a packet made it drop a row, `dropped` hands out that row's marker.
+//!
 //! After `Memory` in `phase`, `on_packet` or `local` the node is given up. `Full` comes only where a number or a row
 //! would not fit (`Fits`).
 #![tactic(auto)]
 
+mod collecting;
 mod node;
 mod walking;
 

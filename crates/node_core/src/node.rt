@@ -37,6 +37,7 @@ use node_parts::{
     Beginning, Calls, Contents, Envelope, Packet, Rounds, is_given, is_member, is_stored, send,
 };
 use std::alloc::Global;
+use table_gc::Collections;
 use table_schema::Schema;
 use table_store::Table;
 use wire_messages::{Message, Phase, PhaseEnd, Tag};
@@ -53,6 +54,13 @@ pub enum BeginFault {
     Memory,
 }
 
+// What came of a packet: how a phase of a request ended, and the delete marker of a row that was dropped, where so.
+#[derive(Drop)]
+struct Heard<R> {
+    ended: Option<(u64, PhaseEnd<R>)>,
+    dropped: Option<(u64, u64)>,
+}
+
 /// A node of the cluster.
 #[derive(Drop)]
 pub struct Node<S: Schema> {
@@ -61,11 +69,15 @@ pub struct Node<S: Schema> {
     pub(crate) contents: Contents<S>,
     pub(crate) calls: Calls<S>,
     pub(crate) rounds: Rounds,
+    /// Its collections of delete markers.
+    pub(crate) gc: Collections,
+    /// The delete marker of the row that the last packet made it drop, until it is handed out.
+    pub(crate) dropped: Option<(u64, u64)>,
     pub(crate) alloc: Global,
 }
 
 impl<S: Schema> Node<S> {
-    ghost use Rattle.node_core.specs.Stands.{StandsFor, Does, Acts, Becomes, Overflows};
+    ghost use Rattle.node_core.specs.Stands.{StandsFor, Does, Acts, Becomes, HasDropped, Overflows, dropped_of};
 
     /// A node with an empty view, and nothing else.
     pub fn new(alloc: Global, id: u8) -> Result<Node<S>, Memory>
@@ -78,6 +90,8 @@ impl<S: Schema> Node<S> {
             contents: Contents::new(alloc)?,
             calls: Calls::new(alloc),
             rounds: Rounds::new(),
+            gc: Collections::new(alloc),
+            dropped: None,
             alloc,
         })
     }
@@ -99,6 +113,15 @@ impl<S: Schema> Node<S> {
         ensures { (id : ℕ) (x : Model S.Row Layout) → StandsFor S.Row.join S.words self.now id x → result ≡ length x.blocks }
     {
         self.contents.blocks.len()
+    }
+
+    /// Hands out the delete marker (timestamp in milliseconds, identifier) of the row that the last packet made the
+    /// node drop, where it did.
+    pub fn dropped(&mut self) -> Option<(u64, u64)>
+        ensures given { result ≡ dropped_of self.old }
+        ensures unchanged { Becomes S.Row.join S.words self.old self.new (λ id x. x) }
+    {
+        self.dropped.take()
     }
 
     /// A request begins. Its number is above those of the open ones.
@@ -336,7 +359,8 @@ impl<S: Schema> Node<S> {
         self.look_around(before, now)
     }
 
-    /// A packet comes from another node; how a phase of a request ended, where one did.
+    /// A packet comes from another node; how a phase of a request ended, where one did. A tombstone needs no block. What
+    /// row it made the node drop, `dropped` says.
     pub fn on_packet(
         &mut self,
         from: u8,
@@ -346,26 +370,47 @@ impl<S: Schema> Node<S> {
     ) -> Result<Option<(u64, PhaseEnd<S::Row>)>, Memory>
         requires stocked { PacketCarriesBlocks (blake2b 32) S.words (told packet.now) }
         ensures receives { IfOk result (λ given. Does S.Row.join S.words self.old self.new out.old.items out.new.items given (λ id x. receives S.Row.join S.words layouts id now x from (told packet.now))) }
+        ensures dropped { OnOk result (HasDropped S.Row.join S.words self.old (dropped_of self.new) (λ id x. receives S.Row.join S.words layouts id now x from (told packet.now))) }
+        ensures causes { WantOr result (Overflows S.Row.join S.words self.old (λ id x. receives S.Row.join S.words layouts id now x from (told packet.now))) }
+    {
+        let heard = self.hear(from, packet, now, out)?;
+        self.dropped = heard.dropped;
+        Ok(heard.ended)
+    }
+
+    // What comes of a packet.
+    fn hear(
+        &mut self,
+        from: u8,
+        packet: &Packet<S::Row>,
+        now: u64,
+        out: &mut Vec<Envelope<S::Row>>,
+    ) -> Result<Heard<S::Row>, Memory>
+        requires stocked { PacketCarriesBlocks (blake2b 32) S.words (told packet.now) }
+        ensures receives { IfOk result (λ heard. Does S.Row.join S.words self.old self.new out.old.items out.new.items heard.ended (λ id x. receives S.Row.join S.words layouts id now x from (told packet.now))) }
+        ensures dropped { IfOk result (λ heard. HasDropped S.Row.join S.words self.old heard.dropped (λ id x. receives S.Row.join S.words layouts id now x from (told packet.now))) }
         ensures causes { WantOr result (Overflows S.Row.join S.words self.old (λ id x. receives S.Row.join S.words layouts id now x from (told packet.now))) }
     {
         match packet {
             Packet::Msg(message) => self.on_message(from, message.get(), now, out),
             Packet::View(view) => {
                 self.take_view(view.get(), now)?;
-                Ok(None)
+                Ok(drops_none(None))
             }
         }
     }
 
+    // What comes of a message.
     fn on_message(
         &mut self,
         from: u8,
         message: &Message<S::Row>,
         now: u64,
         out: &mut Vec<Envelope<S::Row>>,
-    ) -> Result<Option<(u64, PhaseEnd<S::Row>)>, Memory>
+    ) -> Result<Heard<S::Row>, Memory>
         requires stocked { CarriesBlocks (blake2b 32) S.words message.now }
-        ensures hears { IfOk result (λ given. Does S.Row.join S.words self.old self.new out.old.items out.new.items given (λ id x. hears S.Row.join S.words layouts id now x from message.now)) }
+        ensures hears { IfOk result (λ heard. Does S.Row.join S.words self.old self.new out.old.items out.new.items heard.ended (λ id x. hears S.Row.join S.words layouts id now x from message.now)) }
+        ensures dropped { IfOk result (λ heard. HasDropped S.Row.join S.words self.old heard.dropped (λ id x. hears S.Row.join S.words layouts id now x from message.now)) }
         ensures causes { WantOr result (Overflows S.Row.join S.words self.old (λ id x. hears S.Row.join S.words layouts id now x from message.now)) }
     {
         match message {
@@ -377,7 +422,7 @@ impl<S: Schema> Node<S> {
                 key,
             } => {
                 self.give_row(from, *request, *phase, *at, *table, key, out)?;
-                Ok(None)
+                Ok(drops_none(None))
             }
             Message::Row {
                 request,
@@ -385,7 +430,7 @@ impl<S: Schema> Node<S> {
                 row,
             } => {
                 let given = self.calls.hear_row(from, *request, *phase, row)?;
-                Ok(beside(*request, given))
+                Ok(drops_none(beside(*request, given)))
             }
             Message::Range {
                 request,
@@ -396,7 +441,7 @@ impl<S: Schema> Node<S> {
                 after,
             } => {
                 self.give_rows(from, *request, *phase, *at, bucket, prefix, after, out)?;
-                Ok(None)
+                Ok(drops_none(None))
             }
             Message::Rows {
                 request,
@@ -407,7 +452,7 @@ impl<S: Schema> Node<S> {
                 let given = self
                     .calls
                     .hear_rows(from, *request, *phase, rows.as_slice(), *more)?;
-                Ok(beside(*request, given))
+                Ok(drops_none(beside(*request, given)))
             }
             Message::Store {
                 tag,
@@ -416,9 +461,12 @@ impl<S: Schema> Node<S> {
                 rows,
             } => {
                 self.take_store(from, *tag, *newest, *p, rows.as_slice(), now, out)?;
-                Ok(None)
+                Ok(drops_none(None))
             }
-            Message::Stored(tag) => self.take_stored(from, *tag),
+            Message::Stored(tag) => {
+                let given = self.take_stored(from, *tag)?;
+                Ok(drops_none(given))
+            }
             Message::Walk {
                 tag,
                 newest,
@@ -428,11 +476,11 @@ impl<S: Schema> Node<S> {
                 hash,
             } => {
                 self.take_walk(from, *tag, *newest, *p, *table, prefix, hash, out)?;
-                Ok(None)
+                Ok(drops_none(None))
             }
             Message::Same { tag, table, prefix } => {
                 self.take_answer(from, *tag, *table, prefix, None, out)?;
-                Ok(None)
+                Ok(drops_none(None))
             }
             Message::Differ {
                 tag,
@@ -441,9 +489,11 @@ impl<S: Schema> Node<S> {
                 pairs,
             } => {
                 self.take_answer(from, *tag, *table, prefix, Some(pairs.as_slice()), out)?;
-                Ok(None)
+                Ok(drops_none(None))
             }
-            Message::Behind(_, _) | Message::NotHere(_) | Message::NoBlock { .. } => Ok(None),
+            Message::Behind(_, _) | Message::NotHere(_) | Message::NoBlock { .. } => Ok(drops_none(
+                None,
+            )),
             Message::BlockGet {
                 request,
                 phase,
@@ -451,7 +501,7 @@ impl<S: Schema> Node<S> {
                 hash,
             } => {
                 self.give_block(from, *request, *phase, *at, hash, out)?;
-                Ok(None)
+                Ok(drops_none(None))
             }
             Message::Block {
                 request,
@@ -459,7 +509,33 @@ impl<S: Schema> Node<S> {
                 bytes,
             } => {
                 let given = self.calls.hear_block(*request, *phase, bytes)?;
-                Ok(beside(*request, given))
+                Ok(drops_none(beside(*request, given)))
+            }
+            Message::Tomb {
+                collection,
+                round,
+                row,
+            } => {
+                self.take_tomb(from, *collection, *round, row, now, out)?;
+                Ok(drops_none(None))
+            }
+            Message::Tombed {
+                collection,
+                round,
+                newest,
+            } => {
+                let dropped = self.take_tombed(from, *collection, *round, *newest, now, out)?;
+                Ok(Heard {
+                    ended: None,
+                    dropped,
+                })
+            }
+            Message::Forget { table, key, hash } => {
+                let dropped = self.take_forget(*table, key, hash)?;
+                Ok(Heard {
+                    ended: None,
+                    dropped,
+                })
             }
         }
     }
@@ -513,6 +589,7 @@ impl<S: Schema> Node<S> {
                 Ok(LocalEnd::Worked { rows, blocks })
             }
             Action::Repair => self.repair(out),
+            Action::Collect => self.collect(now, out),
         }
     }
 
@@ -547,8 +624,8 @@ impl<S: Schema> Node<S> {
         self.view = view;
     }
 
-    /// Loses what a node keeps in memory alone: its requests, its round, and who confirmed its outbox. The lost
-    /// requests, ascending.
+    /// Loses what a node keeps in memory alone: its requests, its round, its collections, and who confirmed its outbox.
+    /// The lost requests, ascending.
     pub fn restart(&mut self) -> Result<Vec<u64>, Memory>
         ensures restarts { OnOk result (Becomes S.Row.join S.words self.old self.new (λ id x. restarts x)) }
         ensures lost { IfOk result (λ lost. (id : ℕ) (x : Model S.Row Layout) → StandsFor S.Row.join S.words self.old id x → lost.items ≡ reverse (requests_of x.calls)) }
@@ -557,6 +634,7 @@ impl<S: Schema> Node<S> {
     {
         let lost = self.calls.lose_all()?;
         self.rounds.forget();
+        self.gc.clear();
         self.contents.forget_confirmations();
         Ok(lost)
     }
@@ -590,5 +668,15 @@ fn beside<R>(request: u64, given: Option<PhaseEnd<R>>) -> Option<(u64, PhaseEnd<
     match given {
         Some(end) => Some((request, end)),
         None => None,
+    }
+}
+
+// What came of a packet that made the node drop no row.
+fn drops_none<R>(ended: Option<(u64, PhaseEnd<R>)>) -> Heard<R>
+    ensures { result ≡ record { ended = ended; dropped = None } }
+{
+    Heard {
+        ended,
+        dropped: None,
     }
 }

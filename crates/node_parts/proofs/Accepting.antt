@@ -118,7 +118,7 @@ module _ {R : Type 0} {join : R → R → R} {s : Words R} (laws : Laws join s) 
                 (will ∙ ap (λ t. cond (change_of join s (find_row s (s.table r) (s.key r) t) r).is_live (s.live_block r) None) h.table)
                 now given c.blocks x.blocks x.notes h.blocks);
           };
-          rest = record { view = refl; calls = refl; round = refl; rounds = refl; mending = refl; lasting = refl };
+          rest = record { view = refl; calls = refl; round = refl; rounds = refl; mending = refl; lasting = refl; gc = refl };
         }
 
     queued_spelled : (n : ℕ) (ts : List R) (i : ℕ) (d : R) → AllByRecursion (λ (m : Waiting R). IsTrue (is_spelled s m.row)) (queue_from join s n ts) → i < length ts → IsTrue (is_spelled s (get_or ts i d))
@@ -175,7 +175,7 @@ pub record Passes {S R : Type 0} (join : R → R → R) (s : Words R) (c : Conte
   pub still : z ≡ accepts_all join s now so_far rest
 
 rest_on : {R : Type 0} (x y z : Node R Layout) → KeepsRest x y → KeepsRest y z → KeepsRest x z
-rest_on x y z a b = record { view = b.view ∙ a.view; calls = b.calls ∙ a.calls; round = b.round ∙ a.round; rounds = b.rounds ∙ a.rounds; mending = b.mending ∙ a.mending; lasting = b.lasting ∙ a.lasting }
+rest_on x y z a b = record { view = b.view ∙ a.view; calls = b.calls ∙ a.calls; round = b.round ∙ a.round; rounds = b.rounds ∙ a.rounds; mending = b.mending ∙ a.mending; lasting = b.lasting ∙ a.lasting; gc = b.gc ∙ a.gc }
 
 module _ {S R : Type 0} (join : R → R → R) (s : Words R) (now : ℕ) where
   -- of the whole list the rest is still to be accepted
@@ -183,7 +183,7 @@ module _ {S R : Type 0} (join : R → R → R) (s : Words R) (now : ℕ) where
   PassesTo old mid whole rest = (x : Node R Layout) → IsContents join s old x → Passes join s mid now x (accepts_all join s now x whole) rest
 
   pub passes_first : (c : Contents S R) (whole : List (List ℕ × Option (List ℕ))) → PassesTo c c whole whole
-  passes_first c whole x h = record { so_far = x; became = record { contents = h; rest = record { view = refl; calls = refl; round = refl; rounds = refl; mending = refl; lasting = refl } }; still = refl }
+  passes_first c whole x h = record { so_far = x; became = record { contents = h; rest = record { view = refl; calls = refl; round = refl; rounds = refl; mending = refl; lasting = refl; gc = refl } }; still = refl }
 
   pub passes_last : (old new : Contents S R) (whole : List (List ℕ × Option (List ℕ))) → PassesTo old new whole [] → Accepts join s old new now whole
   passes_last old new whole passes x h = let p = passes x h in subst (Became join s new x) (sym p.still) p.became

@@ -4,13 +4,12 @@ use Rattle.std.specs.List.{filter}
 use Rattle.blake2_hash.specs.declared.digest.Hash32.{Hash32}
 use Rattle.layout_roles.specs.declared.layout.Layout.{Layout}
 use Rattle.table_schema.specs.Words.{Words}
-use Rattle.walk_model.specs.Walking.{Walking, is_open}
+use Rattle.walk_model.specs.Walking.{is_open}
 use Rattle.merkle_sync.specs.declared.walk_end.WalkEnd.{WalkEnd}
 use Rattle.merkle_sync.specs.declared.walk_end.WalkEnd.TheVariants.{Same, Ask, Push}
-use Rattle.merkle_sync.specs.Telling.{Tells}
 use Rattle.cluster_machine.specs.Layouts.{layouts}
-use Rattle.cluster_machine.specs.Node.{Node, Walk, Mending, Post}
-use Rattle.cluster_machine.specs.Rounds.{is_empty, rows_at, walk_at, walk_after, asks_at, pushes_rows, sends_after, has_ended, found_same}
+use Rattle.cluster_machine.specs.Node.{Node, Walk}
+use Rattle.cluster_machine.specs.Rounds.{is_empty, rows_at, walk_at, walk_after, asks_at, pushes_rows, sends_after}
 use Rattle.walk_model.specs.Noting.{is_noted}
 use Rattle.node_parts.specs.declared.contents.Contents.{Contents}
 use Rattle.node_parts.specs.declared.packet.Envelope.{Envelope}
@@ -20,8 +19,8 @@ use Rattle.node_parts.specs.declared.walks.Answer.{Answer}
 use Rattle.node_parts.specs.declared.walks.Walks.{Walks}
 use Rattle.node_parts.specs.Contents.{IsContents}
 use Rattle.node_parts.specs.Posts.{Posts}
-use Rattle.node_parts.specs.Sends.{Sends, Asks, Pushes, Walked, WalksOn, CannotWalk, WalkedLate, WalksLate, CannotWalkLate, IsMended, AreMended, is_of, walking, walks_in, mended}
-use Rattle.node_parts.specs.Walks.{AreWalks, children_of, awaiting, awaiting_in, is_spelled_at, asked_by, WentOn, Tell, Lacks, TakesAnswer, CannotTake, idle, outcome, outcome_of}
+use Rattle.node_parts.specs.Sends.{Sends, Asks, Pushes, Walked, WalksOn, CannotWalk, WalkedLate, WalksLate, CannotWalkLate}
+use Rattle.node_parts.specs.Walks.{children_of, awaiting, awaiting_in, is_spelled_at, asked_by, WentOn, Tell, Lacks, TakesAnswer, CannotTake, idle, outcome, outcome_of}
 use Rattle.node_parts.proofs.Posting.{posts_none}
 use Rattle.node_parts.proofs.PlacedWalks.{found_at}
 

@@ -148,5 +148,5 @@ module _ {S R : Type 0} {join : R → R → R} {s : Words R} (laws : Laws join s
           queued = ap (λ (o : Outbox). o.pushed) outbox ∙ h.queued;
           blocks = subst (λ k. AreBlocks join s k later x.blocks (notes_after join s later x.notes now lost)) (sym ends.are) (dropped_blocks join s c.blocks x.accepted later x.blocks x.notes now ends.hashes lost h.blocks ended_are lost_are);
         };
-        rest = record { view = refl; calls = refl; round = refl; rounds = refl; mending = refl; lasting = refl };
+        rest = record { view = refl; calls = refl; round = refl; rounds = refl; mending = refl; lasting = refl; gc = refl };
       }

@@ -1,13 +1,12 @@
 -- The open partitions of a round of which the node has no rows any more: all their nodes confirm them.
-use Rattle.std.proofs.Common.{◌≡◌, ℕ, ◌+◌, ◌<◌, Bool, true, false, not, cond, ◌&&◌, List, [], ◌∷◌, ◌++◌, map, length, get_or, take, flat_map, refl, sym, ap, subst, ◌∙◌, append-nil, append_assoc}
+use Rattle.std.proofs.Common.{◌≡◌, ℕ, ◌+◌, ◌<◌, Bool, true, false, not, cond, List, [], ◌∷◌, ◌++◌, map, length, get_or, take, flat_map, refl, sym, ap, subst, ◌∙◌, append-nil, append_assoc}
 use Rattle.std.specs.List.{filter}
 use Rattle.layout_roles.specs.declared.layout.Layout.{Layout}
 use Rattle.table_schema.specs.Words.{Words}
 use Rattle.table_schema.specs.Laws.{Laws}
 use Rattle.table_model.specs.Rows.{rows_in}
-use Rattle.cluster_machine.specs.Layouts.{layouts}
 use Rattle.cluster_machine.specs.Node.{Node, Part, Confirmed, Round as Moved}
-use Rattle.cluster_machine.specs.Rounds.{is_empty, has_rows, open_nodes, open_parts, emptied_parts, confirmations}
+use Rattle.cluster_machine.specs.Rounds.{is_empty, has_rows, open_nodes, confirmations}
 use Rattle.node_parts.specs.declared.contents.Contents.{Contents}
 use Rattle.node_parts.specs.declared.rounds.Moving.{Moving}
 use Rattle.node_parts.specs.Contents.{IsContents}
@@ -15,7 +14,7 @@ use Rattle.node_parts.specs.Rounds.{IsMoving, confirmed_round, confirmed_all, ha
 use Rattle.node_parts.specs.Walks.{has_tables}
 use Rattle.node_parts.proofs.SendingItems.{flat_more}
 use Rattle.node_parts.proofs.Spelled.{has_both}
-use Rattle.node_parts.proofs.WalkSends.{map_next, flat_next}
+use Rattle.node_parts.proofs.WalkSends.{map_next}
 
 -- ---- nodes that confirm, one after the other
 

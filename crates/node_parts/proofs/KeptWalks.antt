@@ -1,8 +1,8 @@
 -- The walks by partition and node against those of the model: walks that begin, and one that goes on after an answer.
-use Rattle.std.proofs.Common.{◌≡◌, ◌<◌, ℕ, ◌==◌, ◌&&◌, Bool, true, false, not, cond, Option, Some, None, option_map, List, [], ◌∷◌, ◌++◌, map, length, refl, sym, ap, subst, ◌∙◌, append-nil, append_assoc, arith}
+use Rattle.std.proofs.Common.{◌≡◌, ◌<◌, ℕ, ◌==◌, ◌&&◌, Bool, true, false, cond, Option, Some, None, option_map, List, [], ◌∷◌, ◌++◌, map, length, refl, sym, ap, subst, ◌∙◌, append-nil, append_assoc, arith}
 use Rattle.std.specs.Option.{option_or}
 use Rattle.std.specs.Ordering.{is_eq}
-use Rattle.std.specs.BTreeMap.{BTreeMap, get}
+use Rattle.std.specs.BTreeMap.{get}
 use Rattle.std.proofs.lemmas.Bool.{eqb-true}
 use Rattle.crdt_core.specs.EntryLaws.{and_parts}
 use Rattle.layout_roles.specs.declared.layout.Layout.{Layout}
@@ -12,13 +12,13 @@ use Rattle.merkle_sync.specs.declared.walk_end.WalkEnd.{WalkEnd}
 use Rattle.merkle_sync.specs.declared.walk_end.WalkEnd.TheVariants.{Same, Ask, Push}
 use Rattle.merkle_sync.specs.Telling.{Tells}
 use Rattle.cluster_machine.specs.Node.{Node, Walk}
-use Rattle.cluster_machine.specs.Rounds.{is_empty, is_walk, walk_at, without_walk, with_walk, renewed, walks_after, walk_after, has_ended as is_over}
+use Rattle.cluster_machine.specs.Rounds.{is_empty, is_walk, walk_at, without_walk, with_walk, renewed}
 use Rattle.node_parts.specs.declared.contents.Contents.{Contents}
 use Rattle.node_parts.specs.declared.walks.Answer.{Answer}
 use Rattle.node_parts.specs.declared.walks.NodeWalk.{NodeWalk}
 use Rattle.node_parts.specs.declared.walks.Walks.{Walks}
 use Rattle.node_parts.specs.Contents.{IsContents}
-use Rattle.node_parts.specs.Walks.{AreWalks, walk_in, walk_of, walk_cmp, has_ended, children_of, awaiting, awaiting_in, asked_by, state_after, WentOn, Tell, Lacks, IsSpelled, LacksSpelling, GoesOn, is_spelled_at}
+use Rattle.node_parts.specs.Walks.{AreWalks, walk_in, walk_of, walk_cmp, has_ended, awaiting, awaiting_in, asked_by, state_after, Tell, Lacks, IsSpelled, LacksSpelling, GoesOn}
 use Rattle.node_parts.proofs.PlacedWalks.{same_place, found_at, taken_out, put_in, renewed_at}
 
 abbrev pub as_walk : ℕ → Walking → Walk

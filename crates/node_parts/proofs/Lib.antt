@@ -25,3 +25,14 @@ pub mod Answering
 pub mod Spelled
 pub mod MovedParts
 pub mod Emptying
+pub mod KeyedRows
+pub mod Looking
+pub mod Gathered
+pub mod Gathering
+pub mod TombSteps
+pub mod ClosedAll
+pub mod Collected
+pub mod GoingOn
+pub mod GoesOn
+pub mod AboutOne
+pub mod LookedAt

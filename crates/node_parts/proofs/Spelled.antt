@@ -1,6 +1,6 @@
 -- Rows of a partition: that each has a spelling, and that there are some.
 use Rattle.std.proofs.Common.{◌≡◌, ◌≤◌, ℕ, ◌==◌, ◌&&◌, ◌||◌, Bool, true, false, not, cond, List, [], ◌∷◌, Option, Some, None, is_none, is_some, IsTrue, map, refl, sym, ap, subst, ◌∙◌, arith}
-use Rattle.std.specs.List.{All, filter, list_all, list_any}
+use Rattle.std.specs.List.{filter, list_all}
 use Rattle.std.proofs.lemmas.Bool.Decides.{nat_tests}
 use Rattle.std.proofs.lemmas.List.Elements.{All-cons, All-head, All-tail}
 use Rattle.blake2_hash.specs.Blake2b.{blake2b}
@@ -22,7 +22,7 @@ use Rattle.cluster_machine.specs.Rounds.{is_empty, has_rows, rows_at, children_h
 use Rattle.node_parts.specs.declared.contents.Contents.{Contents}
 use Rattle.node_parts.specs.Contents.{IsContents}
 use Rattle.node_parts.specs.declared.walks.Answer.{Answer}
-use Rattle.node_parts.specs.Walks.{has_tables, is_spelled_at, IsSpelled, LacksSpelling, children_of, GoesOn}
+use Rattle.node_parts.specs.Walks.{has_tables, IsSpelled, LacksSpelling, children_of, GoesOn}
 
 none_or_some : {A : Type 0} (o : Option A) → is_some o ≡ not (is_none o)
 none_or_some None = refl

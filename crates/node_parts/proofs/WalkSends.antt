@@ -1,41 +1,33 @@
 -- What a node asks and pushes in walks, one message after the other.
-use Rattle.std.proofs.Common.{inl, inr, ◌≡◌, ℕ, ◌+◌, ◌<◌, Bool, true, false, not, ◌==◌, ◌&&◌, cond, List, [], ◌∷◌, ◌++◌, Option, Some, None, map, length, get_or, take, flat_map, refl, sym, ap, subst, ◌⊎◌, ◌∙◌, append-nil, append_assoc}
+use Rattle.std.proofs.Common.{inl, inr, ◌≡◌, ℕ, ◌+◌, ◌<◌, Bool, true, false, ◌==◌, ◌&&◌, cond, List, [], ◌∷◌, ◌++◌, Option, Some, None, map, length, get_or, take, flat_map, refl, sym, ap, subst, ◌⊎◌, ◌∙◌, append-nil, append_assoc}
 use Rattle.std.specs.List.{filter, list_all}
 use Rattle.std.proofs.lemmas.List.{map-append, take_more}
 use Rattle.std.proofs.lemmas.List.Folds.{list_all-map, list_all_at}
-use Rattle.crdt_core.specs.EntryLaws.{and_parts}
 use Rattle.crdt_core.specs.declared.memory.Memory.{Memory}
 use Rattle.crdt_core.specs.declared.memory.Memory.TheVariants.{Want, Full}
 use Rattle.blake2_hash.specs.declared.digest.Hash32.{Hash32}
 use Rattle.block_store.specs.Contents.{Contents as Kept, block_at as kept_at}
 use Rattle.layout_roles.specs.declared.layout.Layout.{Layout}
 use Rattle.table_schema.specs.Words.{Words}
-use Rattle.table_model.specs.Rows.{rows, rows_in}
-use Rattle.walk_model.specs.Walking.{Walking, begun}
-use Rattle.merkle_sync.specs.declared.walk_end.WalkEnd.{WalkEnd}
-use Rattle.merkle_sync.specs.declared.walk_end.WalkEnd.TheVariants.{Same, Ask, Push}
-use Rattle.merkle_sync.specs.Telling.{Tells}
-use Rattle.wire_messages.specs.declared.message.Message.TheVariants.{Store, Walk as AsksValue}
+use Rattle.table_model.specs.Rows.{rows_in}
+use Rattle.walk_model.specs.Walking.{begun}
+use Rattle.wire_messages.specs.declared.message.Message.TheVariants.{Store}
 use Rattle.wire_messages.specs.declared.message.Tag.TheVariants.{Round as ForRound}
 use Rattle.cluster_machine.specs.Layouts.{layouts}
-use Rattle.cluster_machine.specs.Node.{Node, Part, Walk, Mending, Post}
+use Rattle.cluster_machine.specs.Node.{Node, Part, Walk}
 use Rattle.cluster_machine.specs.Phases.{is_spelled, bytes_of, to_each}
 use Rattle.cluster_machine.specs.Rows.{block_at}
-use Rattle.cluster_machine.specs.Rounds.{is_empty, rows_at, found, with_its_block, value_here, walk_at, walk_with, walk_after, asks_at, first_asks, starts, pushes_rows, sends_after, are_spelled, has_ended, found_same}
+use Rattle.cluster_machine.specs.Rounds.{is_empty, rows_at, found, with_its_block, walk_with, asks_at, first_asks, starts, pushes_rows}
 use Rattle.walk_model.specs.Noting.{tables_of, is_noted}
 use Rattle.node_parts.specs.declared.contents.Contents.{Contents}
 use Rattle.node_parts.specs.declared.packet.Envelope.{Envelope}
-use Rattle.node_parts.specs.declared.rounds.Mending.{Mending as Mended}
 use Rattle.node_parts.specs.declared.sender.Sender.{Sender}
-use Rattle.node_parts.specs.declared.walks.Answer.{Answer}
 use Rattle.node_parts.specs.declared.walks.NodeWalk.{NodeWalk}
-use Rattle.node_parts.specs.declared.walks.Walks.{Walks}
 use Rattle.node_parts.specs.Contents.{IsContents}
-use Rattle.node_parts.specs.Posts.{posted, Posts}
-use Rattle.node_parts.specs.Sends.{part_of, found_in, rows_with_blocks, walks_over, Began, Sends, Sent, Asks, Pushes, Starts, StartsAll, CannotStart, Walked, WalksOn, CannotWalk, WalkedLate, WalksLate, CannotWalkLate, IsMended, AreMended, is_of, walking, walks_in, mended}
-use Rattle.node_parts.specs.Walks.{AreWalks, walk_of, children_of, awaiting, awaiting_in, is_spelled_at, IsSpelled, LacksSpelling, asked_by, state_after, WentOn, Tell, Lacks, TakesAnswer, CannotTake, Outcome, idle, outcome, outcome_of}
-use Rattle.node_parts.proofs.Posting.{posts_none, posts_more}
-use Rattle.node_parts.proofs.PlacedWalks.{found_at}
+use Rattle.node_parts.specs.Posts.{Posts}
+use Rattle.node_parts.specs.Sends.{part_of, found_in, rows_with_blocks, Began, Sends, Sent, Pushes, Starts, CannotStart}
+use Rattle.node_parts.specs.Walks.{walk_of, is_spelled_at, LacksSpelling}
+use Rattle.node_parts.proofs.Posting.{posts_more}
 use Rattle.node_parts.proofs.SendingItems.{flat_more}
 
 -- what follows from a cause follows from each error

@@ -51,7 +51,7 @@ pub record IsContents {S R : Type 0} (join : R → R → R) (s : Words R) (c : C
   pub queued : c.outbox.pushed ≡ x.queued
   pub blocks : AreBlocks join s c.blocks x.accepted x.blocks x.notes
 
--- x became y, and its view, its requests, its rounds and its walks stayed as they were
+-- x became y, and its view, its requests, its rounds, its walks and its collections stayed as they were
 pub record KeepsRest {R : Type 0} (x y : Node R Layout) : Type 0 where
   pub view : y.view ≡ x.view
   pub calls : y.calls ≡ x.calls
@@ -59,6 +59,7 @@ pub record KeepsRest {R : Type 0} (x y : Node R Layout) : Type 0 where
   pub rounds : y.rounds ≡ x.rounds
   pub mending : y.mending ≡ x.mending
   pub lasting : y.lasting ≡ x.lasting
+  pub gc : y.gc ≡ x.gc
 
 -- x became y, which has these contents
 pub record Became {S R : Type 0} (join : R → R → R) (s : Words R) (c : Contents S R) (x y : Node R Layout) : Type 0 where

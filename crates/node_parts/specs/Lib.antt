@@ -7,3 +7,4 @@ pub mod Walks
 pub mod Sends
 pub mod Rounds
 pub mod References
+pub mod Collects

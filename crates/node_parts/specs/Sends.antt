@@ -8,10 +8,9 @@ use Rattle.layout_roles.specs.declared.layout.Layout.{Layout}
 use Rattle.view_model.specs.Layouts.{reading}
 use Rattle.view_model.specs.View.{newest}
 use Rattle.table_schema.specs.Words.{Words}
-use Rattle.merkle_sync.specs.declared.walk_end.WalkEnd.{WalkEnd}
 use Rattle.cluster_machine.specs.Node.{Node, Part, Walk, Mending, Post}
 use Rattle.cluster_machine.specs.Phases.{bytes_of}
-use Rattle.cluster_machine.specs.Rounds.{rows_at, walk_with, first_asks, starts, asks_at, pushes_rows, are_spelled, parts_of}
+use Rattle.cluster_machine.specs.Rounds.{rows_at, walk_with, starts, asks_at, pushes_rows, are_spelled, parts_of}
 use Rattle.walk_model.specs.Noting.{is_noted}
 use Rattle.node_parts.specs.declared.contents.Contents.{Contents}
 use Rattle.node_parts.specs.declared.packet.Envelope.{Envelope}
@@ -24,7 +23,7 @@ use Rattle.cluster_machine.specs.Layouts.{layouts}
 use Rattle.node_parts.specs.Contents.{IsContents}
 use Rattle.node_parts.specs.Posts.{Posts}
 use Rattle.node_parts.specs.Sets.{others_of}
-use Rattle.node_parts.specs.Walks.{AreWalks, walk_of, is_spelled_at, Outcome, idle, outcome}
+use Rattle.node_parts.specs.Walks.{AreWalks, walk_of, Outcome, idle, outcome}
 
 -- a partition with nodes
 abbrev pub part_of : ℕ × List ℕ → Part

@@ -51,7 +51,12 @@ impl<S: Schema> Contents<S> {
     }
 
     // Merges a row in, keeps the block that it needs and that came with it, and queues the rows that this calls for.
-    fn accept(&mut self, row: S::Row, given: &Option<Block>, now: u64) -> Result<(), Memory>
+    pub(crate) fn accept(
+        &mut self,
+        row: S::Row,
+        given: &Option<Block>,
+        now: u64,
+    ) -> Result<(), Memory>
         requires proper { IsTrue (S.words.is_proper row) }
         requires beside { IsBeside (blake2b 32) (S.words.live_block row) given.now }
         ensures accepts { OnOk result (Turns S.Row.join S.words self.old self.new (λ x. accepts S.Row.join S.words now x row given.now)) }

@@ -14,13 +14,15 @@
 //! `Beginning` begins a phase of a request: it sends the first messages and gives the phase. `Sender` walks down the
 //! node's rows with other nodes in a round or a repair: it asks for values at prefixes of key hashes, and pushes the rows
 //! that differ, with their blocks. `Walks` are the open walks, by partition and node; a round and a repair have theirs,
-//! and a round that is complete keeps them. The rest reads a view: the sets of a partition in the stored versions, and who
-//! is a member or keeps copies.
+//! and a round that is complete keeps them. `Collector` goes on with a node's collections of delete markers (table_gc),
+//! and `Contents` merges tombstones and drops rows that were collected (src/tombs.rt). The rest reads a view: the sets
+//! of a partition in the stored versions, and who is a member or keeps copies.
 #![tactic(auto)]
 
 mod begin;
 mod call;
 mod calls;
+mod collector;
 mod contents;
 mod packet;
 mod posts;
@@ -29,12 +31,14 @@ mod rounds;
 mod sender;
 mod sets;
 mod storage;
+mod tombs;
 mod tries;
 mod walks;
 
 pub use begin::Beginning;
 pub use call::{Call, Present};
 pub use calls::Calls;
+pub use collector::Collector;
 pub use contents::Contents;
 pub use packet::{Envelope, Packet};
 pub use posts::send;

@@ -4,7 +4,7 @@ ghost use Rattle.std.specs.Prelude.{◌≡◌, IsTrue, IfOk, option_map};
 ghost use Rattle.std.specs.List.{AllByRecursion};
 ghost use Rattle.blake2_hash.specs.Blake2b.{blake2b};
 ghost use Rattle.layout_roles.specs.Zones.{set_ascends};
-ghost use Rattle.cluster_machine.specs.Blocks.{IsBeside, IsRowWithBlock, PacketCarriesBlocks};
+ghost use Rattle.cluster_machine.specs.Blocks.{IsBeside, IsRowWithBlock, NeedsNone, PacketCarriesBlocks};
 ghost use Rattle.cluster_machine.specs.Keeping.{IsShort};
 ghost use Rattle.object_schema.specs.Schema.{words};
 ghost use Rattle.node_parts.specs.Posts.{told};
@@ -159,12 +159,24 @@ fn come_with_blocks(alloc: Global, rows: &[(Bytes, Option<Block>)]) -> Result<bo
     Ok(true)
 }
 
+// The row needs no block, if it is one.
+fn needs_none(alloc: Global, row: &Bytes) -> Result<bool, Memory>
+    ensures { IfOk result (λ is. IsTrue is → NeedsNone (blake2b 32) words row.now) }
+{
+    match S3Schema::row_from(alloc, row.as_slice()) {
+        Ok(row) => Ok(S3Schema::live_block(&row).is_none()),
+        Err(RowFault::NotARow) => Ok(true),
+        Err(RowFault::Memory) => Err(Memory::Want),
+    }
+}
+
 fn carries_blocks(alloc: Global, packet: &Packet<AnyRow>) -> Result<bool, Memory>
     ensures { IfOk result (λ is. IsTrue is → PacketCarriesBlocks (blake2b 32) words (told packet.now)) }
 {
     match packet {
         Packet::Msg(message) => match message.get() {
             Message::Store { rows, .. } => come_with_blocks(alloc, rows.as_slice()),
+            Message::Tomb { row, .. } => needs_none(alloc, row),
             _ => Ok(true),
         },
         Packet::View(_) => Ok(true),
@@ -181,20 +193,27 @@ struct Cluster {
     alloc: Global,
 }
 
-fn act(node: &mut Node<S3Schema>, action: Action, out: &mut Post) -> Result<LocalEnd, Fail> {
+// The node acts when its clock says `now`.
+fn act_at(
+    node: &mut Node<S3Schema>,
+    action: Action,
+    now: u64,
+    out: &mut Post,
+) -> Result<LocalEnd, Fail> {
     if node.view().newest() < 1 {
         return Err("no version".into());
     }
-    Ok(node.local(action, 0, out)?)
+    Ok(node.local(action, now, out)?)
+}
+
+fn act(node: &mut Node<S3Schema>, action: Action, out: &mut Post) -> Result<LocalEnd, Fail> {
+    act_at(node, action, 0, out)
 }
 
 // The node works when its clock says `now`.
 fn work(alloc: Global, node: &mut Node<S3Schema>, now: u64) -> Result<LocalEnd, Fail> {
-    if node.view().newest() < 1 {
-        return Err("no version".into());
-    }
     let mut out = Vec::new(alloc);
-    Ok(node.local(Action::Work, now, &mut out)?)
+    act_at(node, Action::Work, now, &mut out)
 }
 
 // The node's view, on its way to node `to`.
@@ -411,5 +430,127 @@ fn a_restart_loses_requests_and_a_repair_pushes_rows(rt: HostRuntime) -> Result<
     let mut out = Vec::new(alloc);
     let worked = act(&mut cluster.first, Action::Work, &mut out)?;
     assert_eq!(rt; worked, LocalEnd::Worked { rows: 0, blocks: 0 });
+    Ok(())
+}
+
+// The node collects when its clock says `now`; how many collections began and are open, and how many messages it sent.
+fn collect(alloc: Global, node: &mut Node<S3Schema>, now: u64) -> Result<(u64, u64, usize), Fail> {
+    let mut out = Vec::new(alloc);
+    match act_at(node, Action::Collect, now, &mut out)? {
+        LocalEnd::Collected { begun, left } => Ok((begun, left, out.len())),
+        _ => Err("not collected".into()),
+    }
+}
+
+// The node takes a message from another when its clock says `now`; the delete marker of the row that it drops.
+fn hear(
+    alloc: Global,
+    node: &mut Node<S3Schema>,
+    from: u8,
+    message: Message<AnyRow>,
+    now: u64,
+    out: &mut Post,
+) -> Result<Option<(u64, u64)>, Fail> {
+    let packet = Packet::Msg(Shared::new(alloc, message)?);
+    if !carries_blocks(alloc, &packet)? {
+        return Err("without its block".into());
+    }
+    let _ = node.on_packet(from, &packet, now, out)?;
+    Ok(node.dropped())
+}
+
+// Nodes 2 to 16 confirm a round of collection 1 with newest version 1; the delete marker of the row that is dropped, and
+// how many messages the node sends.
+fn confirmed(
+    alloc: Global,
+    node: &mut Node<S3Schema>,
+    round: u8,
+    now: u64,
+) -> Result<(Option<(u64, u64)>, usize), Fail> {
+    let mut out = Vec::new(alloc);
+    let mut dropped = None;
+    for from in 2..17u8 {
+        let message = Message::Tombed {
+            collection: 1,
+            round,
+            newest: 1,
+        };
+        dropped = hear(alloc, node, from, message, now, &mut out)?;
+    }
+    Ok((dropped, out.len()))
+}
+
+// Node 1 with a tombstone of timestamp 5, as another node's collection gave it.
+fn with_tomb(alloc: Global) -> Result<Node<S3Schema>, Fail> {
+    let mut node = node(alloc, 1)?;
+    let row = S3Schema::row_bytes(alloc, &marker(alloc, 5)?)?;
+    let mut out = Vec::new(alloc);
+    let message = Message::Tomb {
+        collection: 7,
+        round: 1,
+        row,
+    };
+    if hear(alloc, &mut node, 2, message, 0, &mut out)?.is_some() || out.len() != 1 {
+        return Err("not confirmed".into());
+    }
+    Ok(node)
+}
+
+#[test]
+fn a_tombstone_is_collected_in_two_rounds(rt: HostRuntime) -> Result<(), Fail> {
+    let alloc = rt.alloc();
+    let mut node = with_tomb(alloc)?;
+    assert_eq!(rt; node.table().len(), 1);
+    assert_eq!(rt; collect(alloc, &mut node, 86_400_004)?, (0, 0, 0));
+    assert_eq!(rt; collect(alloc, &mut node, 86_400_005)?, (1, 1, 15));
+    assert_eq!(rt; collect(alloc, &mut node, 86_400_006)?, (0, 1, 15));
+    assert_eq!(rt; confirmed(alloc, &mut node, 1, 86_400_007)?, (None, 0));
+    assert_eq!(rt; collect(alloc, &mut node, 97_200_006)?, (0, 1, 0));
+    assert_eq!(rt; collect(alloc, &mut node, 97_200_007)?, (0, 1, 15));
+    assert_eq!(rt;
+        confirmed(alloc, &mut node, 2, 97_200_008)?,
+        (Some((5, 5)), 15)
+    );
+    assert_eq!(rt; node.table().len(), 0);
+    assert_eq!(rt; collect(alloc, &mut node, 97_200_009)?, (0, 0, 0));
+    Ok(())
+}
+
+// What a node drops that is told to forget the row with these bytes.
+fn forgotten(
+    alloc: Global,
+    node: &mut Node<S3Schema>,
+    row: &Bytes,
+) -> Result<Option<(u64, u64)>, Fail> {
+    let mut out = Vec::new(alloc);
+    let mut key = Bytes::from_slice(alloc, &BUCKET.0)?;
+    key.extend_from_slice(b"a")?;
+    let message = Message::Forget {
+        table: 1,
+        key,
+        hash: blake2b_256(row.as_slice()),
+    };
+    hear(alloc, node, 2, message, 0, &mut out)
+}
+
+#[test]
+fn a_collected_row_is_forgotten_elsewhere(rt: HostRuntime) -> Result<(), Fail> {
+    let alloc = rt.alloc();
+    let mut node = with_tomb(alloc)?;
+    let other = S3Schema::row_bytes(alloc, &marker(alloc, 6)?)?;
+    let row = S3Schema::row_bytes(alloc, &marker(alloc, 5)?)?;
+    assert_eq!(rt; forgotten(alloc, &mut node, &other)?, None);
+    assert_eq!(rt; forgotten(alloc, &mut node, &row)?, Some((5, 5)));
+    assert_eq!(rt; forgotten(alloc, &mut node, &row)?, None);
+    Ok(())
+}
+
+#[test]
+fn a_restart_loses_collections(rt: HostRuntime) -> Result<(), Fail> {
+    let alloc = rt.alloc();
+    let mut node = with_tomb(alloc)?;
+    assert_eq!(rt; collect(alloc, &mut node, 86_400_005)?, (1, 1, 15));
+    assert_eq!(rt; node.restart()?.len(), 0);
+    assert_eq!(rt; collect(alloc, &mut node, 86_400_006)?, (1, 1, 15));
     Ok(())
 }

@@ -12,7 +12,7 @@ use Rattle.object_schema.specs.Schema.{words}
 use Rattle.layout_roles.specs.declared.layout.Layout.{Layout}
 use Rattle.layout_roles.specs.declared.cut.Cut.{Cut}
 use Rattle.wire_messages.specs.declared.message.Message.{Message}
-use Rattle.wire_messages.specs.declared.message.Message.TheVariants.{Get, Row, Range, Rows, Store, Stored, Behind, NotHere, BlockGet, Block, NoBlock, Walk as AsksValue, Same as HasSame, Differ}
+use Rattle.wire_messages.specs.declared.message.Message.TheVariants.{Get, Row, Range, Rows, Store, Stored, Behind, NotHere, BlockGet, Block, NoBlock, Walk as AsksValue, Same as HasSame, Differ, Tomb, Tombed, Forget}
 use Rattle.wire_messages.specs.declared.message.Tag.TheVariants.{Call as ForCall, Round as ForRound, Item as ForItem}
 use Rattle.wire_messages.specs.declared.phase.Phase.{Phase}
 use Rattle.cluster_machine.specs.declared.applied.Applied.{Applied}
@@ -32,6 +32,7 @@ use Rattle.cluster_machine.specs.Trio.{trio, stage_trio}
 use Rattle.cluster_machine.specs.World.{Sent, Request, numbered, clock}
 use Rattle.machine_laws.specs.Follows.{Follows}
 use Rattle.machine_laws.proofs.Same.{IsSaid, SaysOnly, Unseen, unseen_hears, unseen_begins}
+use Rattle.machine_laws.proofs.Collecting.{unseen_tomb, unseen_tomb_came, unseen_forgets}
 use Rattle.machine_laws.proofs.Rounding.{said_after, unseen_late}
 use Rattle.machine_laws.proofs.Runs.{unseen_works, goes, reached_all}
 use Rattle.machine_laws.proofs.Controls.{turned}
@@ -115,6 +116,9 @@ leaves_hears id now y from (NotHere tag) = leaves_unseen y _ (unseen_hears any_j
 leaves_hears id now y from (BlockGet request phase at hash) = leaves_unseen y _ (unseen_hears any_join words layouts id now y from (BlockGet request phase at hash) tt)
 leaves_hears id now y from (Block request phase bytes) = leaves_unseen y _ (unseen_hears any_join words layouts id now y from (Block request phase bytes) tt)
 leaves_hears id now y from (NoBlock request phase) = leaves_unseen y _ (unseen_hears any_join words layouts id now y from (NoBlock request phase) tt)
+leaves_hears id now y from (Tomb number round row) = leaves_unseen y _ (unseen_tomb any_join words layouts id now y from number round row)
+leaves_hears id now y from (Tombed number round named) = leaves_unseen y _ (unseen_tomb_came any_join words layouts id now y from number round named)
+leaves_hears id now y from (Forget table key hash) = leaves_unseen y _ (unseen_forgets any_join words y table key hash.0)
 leaves_hears id now y from (AsksValue tag named p table prefix hash) = leaves_unseen y _ (unseen_hears any_join words layouts id now y from (AsksValue tag named p table prefix hash) tt)
 leaves_hears id now y from (HasSame (ForRound number p) table prefix) = leaves_answer id y from number p table prefix None y.round
 leaves_hears id now y from (HasSame (ForCall request phase slot) table prefix) = leaves_unseen y _ (unseen_hears any_join words layouts id now y from (HasSame (ForCall request phase slot) table prefix) (λ h. h))

@@ -23,10 +23,14 @@ use Rattle.replay_run.specs.declared.account.Account.TheVariants.{Transcript, Ch
 use Rattle.replay_run.specs.Account.{closing, IsText}
 use Rattle.replay_run.specs.Replay.{IsReplay, whole, sent}
 use Rattle.replay_run.proofs.Leading.{played_fits}
+use Rattle.replay_run.proofs.Limits.{all_allowed}
 use Rattle.replay_run.proofs.Checked.{line_is_fresh}
 use Rattle.store_anchors.specs.Promises.{WalksAreClear, KeepsPromises, EveryRunKeepsPromises}
+use Rattle.prompt_laws.specs.Times.{CollectsInTime, IsPromptIfTimely}
+use Rattle.prompt_laws.proofs.Safely.{TimelyTurnsArePrompt, collects_safely}
 use Rattle.replay_command.specs.Answer.{IsAnswer, bad_line, many_events, replayed, IsOfReplay, Agree}
 use Rattle.replay_command.specs.Replay.{IsTranscribed, checked_transcript, IsChecked, IsAccounted, IsWhole, Replays}
+use Rattle.replay_command.proofs.Stating.{EveryFits}
 
 -- a text is a schedule, has a bad line or too many events, and no two of these
 one_reading : (r : Reading) (events : List Numbered) (n : ℕ) → r ≡ schedule events → r ≡ first_bad n → ⊥
@@ -60,6 +64,10 @@ statuses_agree account input s t a b (replayed events spells stated) (replayed o
 played_promises : EveryRunKeepsPromises → (turns : List Turn) → ArePlayed turns → AtEachMoment KeepsPromises (acts_of turns)
 played_promises kept turns played = kept (acts_of turns) played.lawful (played_fits start turns played.go_on)
 
+-- and turns of a schedule that were played are prompt if they are timely
+played_prompt : EveryFits → TimelyTurnsArePrompt → (input : List ℕ) (turns : List Turn) → IsSchedule input (events_of turns) → ArePlayed turns → IsPromptIfTimely (acts_of turns)
+played_prompt fits timely input turns spells played = timely turns (all_allowed turns (fits input (events_of turns) spells).allowed) played.lawful
+
 -- the text is the whole account of what the input spells
 record IsOfTurns (account : Account) (input text : List ℕ) : Type 0 where
   turns : List Turn
@@ -82,14 +90,19 @@ plain_text : (turns : List Turn) (text : List ℕ) → IsText Transcript turns t
 plain_text turns text h = h.text_is ∙ ap (λ t. turns_text start turns ++ t) (h.ends.text_is ∙ ap (λ line. closing (length turns) (run start turns) line) h.ends.is_line)
 
 -- and where all reads are fresh, with a check that says so
-check_is_fresh : (turns : List Turn) (text : List ℕ) → KeepsPromises (acts_of turns) → IsText Checked turns text → WalksAreClear (acts_of turns) → NoClash (run start turns).buckets → text ≡ checked_transcript turns
-check_is_fresh turns text kept h clear apart =
-    h.text_is ∙ ap (λ t. turns_text start turns ++ t) (h.ends.text_is ∙ ap (λ line. closing (length turns) (run start turns) line) (line_is_fresh (run start turns).history h.ends.line (kept.recorded clear apart) h.ends.is_line))
+check_is_fresh : (turns : List Turn) (text : List ℕ) → KeepsPromises (acts_of turns) → IsPromptIfTimely (acts_of turns) → IsText Checked turns text →
+    WalksAreClear (acts_of turns) → CollectsInTime (acts_of turns) → NoClash (run start turns).buckets → text ≡ checked_transcript turns
+check_is_fresh turns text kept prompt h clear in_time apart =
+    let safely = collects_safely (acts_of turns) prompt in_time in
+    h.text_is ∙ ap (λ t. turns_text start turns ++ t) (h.ends.text_is ∙ ap (λ line. closing (length turns) (run start turns) line) (line_is_fresh (run start turns).history h.ends.line (kept.recorded clear safely apart) h.ends.is_line))
 
 -- all of it
-module _ (kept : EveryRunKeepsPromises) (old new : Option (List ℕ)) (input text : List ℕ) where
+module _ (kept : EveryRunKeepsPromises) (fits : EveryFits) (timely : TimelyTurnsArePrompt) (old new : Option (List ℕ)) (input text : List ℕ) where
   at_last : (turns : List Turn) → ArePlayed turns → KeepsPromises (acts_of turns)
   at_last turns played = played_promises kept turns played (acts_of turns) (between (acts_of turns) [] (sym (append-nil (acts_of turns))))
+
+  prompt_if_timely : (account : Account) (done : IsOfTurns account input text) → IsPromptIfTimely (acts_of done.turns)
+  prompt_if_timely account done = played_prompt fits timely input done.turns done.schedule done.played
 
   of_account : (account : Account) → IsOfTurns account input text → Wrote old new text → IsWhole account input old new
   of_account Transcript done wrote = record {
@@ -98,6 +111,7 @@ module _ (kept : EveryRunKeepsPromises) (old new : Option (List ℕ)) (input tex
     played = done.played;
     wrote = subst (Wrote old new) (plain_text done.turns text done.is_text) wrote;
     promises = played_promises kept done.turns done.played;
+    prompt = prompt_if_timely Transcript done;
   }
   of_account Checked done wrote = record {
     turns = done.turns;
@@ -105,9 +119,10 @@ module _ (kept : EveryRunKeepsPromises) (old new : Option (List ℕ)) (input tex
     played = done.played;
     text = text;
     is_text = done.is_text;
-    is_fresh = check_is_fresh done.turns text (at_last done.turns done.played) done.is_text;
+    is_fresh = check_is_fresh done.turns text (at_last done.turns done.played) (prompt_if_timely Checked done) done.is_text;
     wrote = wrote;
     promises = played_promises kept done.turns done.played;
+    prompt = prompt_if_timely Checked done;
   }
   of_account (Summary count seed) done wrote = record {
     turns = done.turns;
@@ -117,23 +132,24 @@ module _ (kept : EveryRunKeepsPromises) (old new : Option (List ℕ)) (input tex
     is_text = done.is_text;
     wrote = wrote;
     promises = played_promises kept done.turns done.played;
+    prompt = prompt_if_timely (Summary count seed) done;
   }
 
 -- the text is the whole account
-done_says : EveryRunKeepsPromises → (account : Account) (old new : Option (List ℕ)) (input text : List ℕ) → IsAnswer account input Done text → Wrote old new text → IsWhole account input old new
-done_says kept account old new input text stated wrote = of_account kept old new input text account (done_of_turns account input text stated) wrote
+done_says : EveryRunKeepsPromises → EveryFits → TimelyTurnsArePrompt → (account : Account) (old new : Option (List ℕ)) (input text : List ℕ) → IsAnswer account input Done text → Wrote old new text → IsWhole account input old new
+done_says kept fits timely account old new input text stated wrote = of_account kept fits timely old new input text account (done_of_turns account input text stated) wrote
 
 no_link : (result : Status) → IsUnlinked result → result ≡ LinkFault → ⊥
 no_link result h e = subst IsUnlinked e h
 
 -- all that is said of the command
 module _ {I O : Type 0} (i : source.Ghosts I) (o : sink.Ghosts O) (account : Account) (result : Status) (input input' : I) (output output' : O) where
-  pub replays : EveryRunKeepsPromises → Edges i o (OfInput (IsAnswer account) (i.left input)) result input input' output output' → IsUnlinked result → Replays i o account result input input' output output'
-  replays kept edges statuses =
+  pub replays : EveryRunKeepsPromises → EveryFits → TimelyTurnsArePrompt → Edges i o (OfInput (IsAnswer account) (i.left input)) result input input' output output' → IsUnlinked result → Replays i o account result input input' output output'
+  replays kept fits timely edges statuses =
       let answered = is_answered i o (OfInput (IsAnswer account) (i.left input)) input input' output output' result edges (no_link result statuses) in
       record {
         edges = edges;
-        done = of_done (IsAnswer account) (λ bytes. IsWhole account bytes (o.written output) (o.written output')) (o.written output) (o.written output') (done_says kept account (o.written output) (o.written output')) (i.left input) result edges.writes.whole;
+        done = of_done (IsAnswer account) (λ bytes. IsWhole account bytes (o.written output) (o.written output')) (o.written output) (o.written output') (done_says kept fits timely account (o.written output) (o.written output')) (i.left input) result edges.writes.whole;
         statuses = statuses;
         answered = answered;
         complete = completes (IsAnswer account) Agree (λ bytes s t e. inl e) (statuses_agree account) result (o.written output) (o.written output') (Rose (i.faults input) (i.faults input') → ⊥) (Rose (o.faults output) (o.faults output') → ⊥) (i.left input) answered;

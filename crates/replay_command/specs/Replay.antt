@@ -19,32 +19,35 @@ use Rattle.replay_run.specs.declared.account.Account.{Account}
 use Rattle.replay_run.specs.declared.account.Account.TheVariants.{Transcript, Checked, Summary}
 use Rattle.replay_run.specs.Account.{IsText, fresh_line, closing}
 use Rattle.text_model.specs.Played.{ArePlayed}
+use Rattle.prompt_laws.specs.Times.{CollectsInTime, IsPromptIfTimely}
 use Rattle.replay_command.specs.Answer.{IsAnswer, Agree}
 
--- what was written for this input is the whole transcript of its events with the layouts that the text prints; each of them is of the greatest partition size, with its printed cut; after each step everything fits, and no more was sent than may be; and at each moment of that run, within drains too, what is promised holds
+-- what was written for this input is the whole transcript of its events with the layouts that the text prints; each of them is of the greatest partition size, with its printed cut; after each step everything fits, and no more was sent than may be; and at each moment of that run, within drains too, what is promised holds, and it is prompt if the turns are timely and no forget clashes
 pub record IsTranscribed (input : List ℕ) (old new : Option (List ℕ)) : Type 0 where
   pub turns : List Turn
   pub schedule : IsSchedule input (events_of turns)
   pub played : ArePlayed turns
   pub wrote : Wrote old new (transcript turns)
   pub promises : AtEachMoment KeepsPromises (acts_of turns)
+  pub prompt : IsPromptIfTimely (acts_of turns)
 
 -- the transcript of turns with the line that says that all finished reads are fresh, and how many pairs there were to look at
 abbrev pub checked_transcript : List Turn → List ℕ
 checked_transcript turns = turns_text start turns ++ closing (length turns) (run start turns) (fresh_line (run start turns).history)
 
--- the same of a replay with a check: the transcript has the line of the check, and where no digests of walks clash and the buckets' names have different digests this says that all reads are fresh
+-- the same of a replay with a check: the transcript has the line of the check, and where no digests of walks clash, what is collected is collected in time and the buckets' names have different digests, this says that all reads are fresh
 pub record IsChecked (input : List ℕ) (old new : Option (List ℕ)) : Type 0 where
   pub turns : List Turn
   pub schedule : IsSchedule input (events_of turns)
   pub played : ArePlayed turns
   pub text : List ℕ
   pub is_text : IsText Checked turns text
-  pub is_fresh : WalksAreClear (acts_of turns) → NoClash (run start turns).buckets → text ≡ checked_transcript turns
+  pub is_fresh : WalksAreClear (acts_of turns) → CollectsInTime (acts_of turns) → NoClash (run start turns).buckets → text ≡ checked_transcript turns
   pub wrote : Wrote old new text
   pub promises : AtEachMoment KeepsPromises (acts_of turns)
+  pub prompt : IsPromptIfTimely (acts_of turns)
 
--- what was written for this input is the whole account of its events, with lawful layouts, and what is promised holds at each moment of that run
+-- what was written for this input is the whole account of its events, with lawful layouts, and what is promised holds at each moment of that run, which is prompt if the turns are timely and no forget clashes
 pub record IsAccounted (account : Account) (input : List ℕ) (old new : Option (List ℕ)) : Type 0 where
   pub turns : List Turn
   pub schedule : IsSchedule input (events_of turns)
@@ -53,6 +56,7 @@ pub record IsAccounted (account : Account) (input : List ℕ) (old new : Option 
   pub is_text : IsText account turns text
   pub wrote : Wrote old new text
   pub promises : AtEachMoment KeepsPromises (acts_of turns)
+  pub prompt : IsPromptIfTimely (acts_of turns)
 
 -- what Done says
 abbrev pub IsWhole : Account → List ℕ → Option (List ℕ) → Option (List ℕ) → Type 0

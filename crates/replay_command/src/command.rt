@@ -13,6 +13,7 @@ use crate::stop::Stop;
 use crdt_core::{Bytes, Memory};
 use lab_main::{ends, read_input, unread};
 use lab_outside::{Sink, Source, Status};
+use prompt_laws::timely_turns_collect_safely;
 use replay_run::{Account, first_turns_go_further, lawful_turns_end_once, no_replay_lacks_room};
 use std::alloc::Global;
 use store_anchors::promises_are_kept;
@@ -84,7 +85,8 @@ fn replayed<O: Sink>(alloc: Global, account: Account, text: &[u8], output: &mut 
 /// And where of the strings that the run hashes for walks no two have one digest, and none has 32 zero bytes: answered reads
 /// are fresh, also by the records alone; a read ends superseded only where its version was overwritten, and no open request
 /// waits for what never comes; and the blocks of acknowledged, undeleted versions lie with live references. Where bytes are
-/// kept in blocks, and for these, no two blocks may have one digest, and walks may not clash.
+/// kept in blocks, and for these, no two blocks may have one digest, and walks may not clash. Where delete markers are
+/// collected, reads are fresh if messages come, and phases begin and end, within an hour.
 pub fn run_replay<I: Source, O: Sink>(
     alloc: Global,
     account: Account,
@@ -94,6 +96,8 @@ pub fn run_replay<I: Source, O: Sink>(
     ensures { Replays I.Source O.Sink account result input.old input.new output.old output.new }
 {
     promises_are_kept();
+    schedules_are_within_limits();
+    timely_turns_collect_safely();
     some_replay_is_stated();
     lawful_turns_end_once();
     match read_input(alloc, input) {

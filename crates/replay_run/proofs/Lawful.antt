@@ -19,7 +19,7 @@ use Rattle.flow_model.specs.declared.flow.FlowStep.TheVariants.{More, Need, Wait
 use Rattle.flow_model.specs.Flow.{started}
 use Rattle.flow_model.specs.Next.{next}
 use Rattle.store_model.specs.declared.event.Event.{Event}
-use Rattle.store_model.specs.declared.event.Event.TheVariants.{Trio, Block, Bucket, Role, Redundancy, Apply, Tick, Skew, Put, Get, Head, Delete, Copy, List as Keys, Deliver, Lose, Drain, Expire, Restart, Gossip, Ack, Sync, SyncAck, Clean, Work, Repair}
+use Rattle.store_model.specs.declared.event.Event.TheVariants.{Trio, Block, Bucket, Role, Redundancy, Apply, Tick, Skew, Put, Get, Head, Delete, Copy, List as Keys, Deliver, Lose, Drain, Expire, Restart, Gossip, Ack, Sync, SyncAck, Clean, Work, Repair, Collect}
 use Rattle.store_model.specs.Orders.{buckets_of}
 use Rattle.store_model.specs.Run.{State, Asked, Draw, Outcome, Moving, plainly, doing, silent, refusal, are_buckets, phases, opened, begins, draws_of, takes, follows, follow, goes_on, effect, delivers, then_drains, drains, start}
 use Rattle.store_model.specs.Acts.{moves, plain, IsLawfulAct}
@@ -109,6 +109,7 @@ in_range (step.SyncAck n) meant = tt
 in_range (step.Clean n) meant = tt
 in_range (step.Work n) meant = tt
 in_range (step.Repair n) meant = tt
+in_range (step.Collect n) meant = tt
 in_range (step.Open n) meant = tt
 in_range (step.Phase q phase) meant = tt
 in_range (step.Close q) meant = tt
@@ -143,6 +144,7 @@ event_fine s (SyncAck n) choice lawful h = moves_fine s (plainly (step.SyncAck n
 event_fine s (Clean n) choice lawful h = moves_fine s (plainly (step.Clean n)) lawful h
 event_fine s (Work n) choice lawful h = moves_fine s (plainly (step.Work n)) lawful h
 event_fine s (Repair n) choice lawful h = moves_fine s (plainly (step.Repair n)) lawful h
+event_fine s (Collect n) choice lawful h = moves_fine s (plainly (step.Collect n)) lawful h
 
 pub after_fine : (s : State) (t : Turn) → IsLawful s t → IsFine s → IsFine (after s t)
 after_fine s t lawful h = event_fine s t.numbered.event t.choice lawful h
@@ -175,3 +177,4 @@ event_lawful s (SyncAck n) meant h = (none_given VersionLimit, (tt, tt, tt))
 event_lawful s (Clean n) meant h = (none_given VersionLimit, (tt, tt, tt))
 event_lawful s (Work n) meant h = (none_given VersionLimit, (tt, tt, tt))
 event_lawful s (Repair n) meant h = (none_given VersionLimit, (tt, tt, tt))
+event_lawful s (Collect n) meant h = (none_given VersionLimit, (tt, tt, tt))

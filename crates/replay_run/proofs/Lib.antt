@@ -12,4 +12,4 @@ pub mod Meant
 pub mod Checked
 pub mod Closing
 pub mod Further
-mod Limits
+pub mod Limits

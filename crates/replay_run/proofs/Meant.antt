@@ -5,7 +5,7 @@ use Rattle.std.specs.List.{All}
 use Rattle.std.proofs.lemmas.List.Elements.{All-from_recursion}
 use Rattle.layout_roles.specs.declared.redundancy.Redundancy.TheVariants.{AtLeast, Maximum}
 use Rattle.store_model.specs.declared.event.Event.{Event}
-use Rattle.store_model.specs.declared.event.Event.TheVariants.{Trio, Block, Bucket, Role, Redundancy, Apply, Tick, Skew, Put, Get, Head, Delete, Copy, List as Keys, Deliver, Lose, Drain, Expire, Restart, Gossip, Ack, Sync, SyncAck, Clean, Work, Repair}
+use Rattle.store_model.specs.declared.event.Event.TheVariants.{Trio, Block, Bucket, Role, Redundancy, Apply, Tick, Skew, Put, Get, Head, Delete, Copy, List as Keys, Deliver, Lose, Drain, Expire, Restart, Gossip, Ack, Sync, SyncAck, Clean, Work, Repair, Collect}
 use Rattle.store_model.specs.declared.event.Numbered.{Numbered}
 use Rattle.text_model.specs.Grammar.{IsAllowed, is_key}
 use Rattle.text_model.specs.Reading.{IsSchedule}
@@ -46,6 +46,7 @@ allowed_is_meant (SyncAck n) h = tt
 allowed_is_meant (Clean n) h = tt
 allowed_is_meant (Work n) h = tt
 allowed_is_meant (Repair n) h = tt
+allowed_is_meant (Collect n) h = tt
 
 -- the events of a schedule are meant
 pub schedule_is_meant : (input : List ℕ) (events : List Numbered) → IsSchedule input events → All (λ (e : Numbered). IsMeantEvent e.event) events

@@ -29,6 +29,7 @@ enum Said {
     Clean(u8),
     Work(u8),
     Repair(u8),
+    Collect(u8),
     Gossip(u8, u8),
     Redundancy(Redundancy),
     NoRole(u8),
@@ -60,6 +61,7 @@ fn numbers(event: &Event) -> Said {
         Event::Clean(node) => Said::Clean(*node),
         Event::Work(node) => Said::Work(*node),
         Event::Repair(node) => Said::Repair(*node),
+        Event::Collect(node) => Said::Collect(*node),
         Event::Gossip { from, to } => Said::Gossip(*from, *to),
         Event::Redundancy(wanted) => Said::Redundancy(*wanted),
         Event::Role { node, role } => match role {
@@ -101,7 +103,7 @@ fn names(event: &Event) -> (&[u8], &[u8]) {
 
 #[test]
 fn reads_numbers_at_their_bounds(rt: HostRuntime) -> Result<(), Fail> {
-    let rows: [(&[u8], Said); 30] = [
+    let rows: [(&[u8], Said); 32] = [
         (b"trio", Said::Trio),
         (b"block 16", Said::Block(16)),
         (b"block 1048576", Said::Block(1_048_576)),
@@ -111,6 +113,8 @@ fn reads_numbers_at_their_bounds(rt: HostRuntime) -> Result<(), Fail> {
         (b"restart 16", Said::Restart(16)),
         (b"work 1", Said::Work(1)),
         (b"repair 9", Said::Repair(9)),
+        (b"collect 1", Said::Collect(1)),
+        (b"collect 16", Said::Collect(16)),
         (b"head 2 pics a", Said::Head(2)),
         (b"delete 3 pics a", Said::Delete(3)),
         (b"copy 4 pics a docs b", Said::Copy(4)),
@@ -177,7 +181,7 @@ fn reads_the_source_of_a_copy(rt: HostRuntime) -> Result<(), Fail> {
 }
 
 /// Lines outside the grammar.
-const OUTSIDE: [&[u8]; 97] = [
+const OUTSIDE: [&[u8]; 100] = [
     b"block 15",
     b"block 1048577",
     b"skew 1",
@@ -200,7 +204,10 @@ const OUTSIDE: [&[u8]; 97] = [
     b"list 1 pics ",
     b"list 1 pics a*",
     b"list 1 pics **",
-    b"collect 1",
+    b"collect",
+    b"collect 0",
+    b"collect 17",
+    b"collect 1 2",
     b"put 1 pics a 65537 97",
     b" trio",
     b"trio ",

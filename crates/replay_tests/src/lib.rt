@@ -3,6 +3,8 @@
 #![tactic(auto)]
 
 #[cfg(test)]
+mod collections;
+#[cfg(test)]
 mod grammar;
 #[cfg(test)]
 mod layout_changes;

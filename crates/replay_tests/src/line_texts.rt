@@ -45,9 +45,15 @@ fn ended(word: EndWord) -> Line {
     Line::Ended { request: 4, word }
 }
 
+const DROPPED: Line = Line::Dropped {
+    node: 16,
+    ts: 86_400_000,
+    id: 12,
+};
+
 #[test]
 fn writes_each_kind_of_line(rt: HostRuntime) -> Result<(), Fail> {
-    let rows: [(Line, &[u8]); 12] = [
+    let rows: [(Line, &[u8]); 15] = [
         (Line::Got(14), b"got 14\n"),
         (sent(16, SentKind::Row, 2, 12), b"sent 16 row 2 12\n"),
         (
@@ -75,6 +81,9 @@ fn writes_each_kind_of_line(rt: HostRuntime) -> Result<(), Fail> {
             b"done 5 copy none\n",
         ),
         (Line::Synced(16, 2), b"synced 16 2\n"),
+        (sent(13, SentKind::Tomb, 1, 16), b"sent 13 tomb 1 16\n"),
+        (sent(87, SentKind::Forget, 1, 2), b"sent 87 forget 1 2\n"),
+        (DROPPED, b"dropped 16 86400000/12\n"),
         (ended(EndWord::Expired), b"ended 4 expired\n"),
         (ended(EndWord::Restarted), b"ended 4 restarted\n"),
         (ended(EndWord::Superseded), b"ended 4 superseded\n"),
@@ -184,7 +193,7 @@ fn writes_the_last_line(rt: HostRuntime) -> Result<(), Fail> {
 
 #[test]
 fn names_events(rt: HostRuntime) {
-    let rows: [(Event, &[u8]); 9] = [
+    let rows: [(Event, &[u8]); 10] = [
         (Event::Trio, b"trio"),
         (Event::Tick(0), b"tick"),
         (Event::Deliver(1), b"deliver"),
@@ -194,6 +203,7 @@ fn names_events(rt: HostRuntime) {
         (Event::Lose(1), b"lose"),
         (Event::Work(3), b"work"),
         (Event::Repair(3), b"repair"),
+        (Event::Collect(3), b"collect"),
     ];
     for (event, word) in &rows {
         assert_eq!(rt; name(event), *word);

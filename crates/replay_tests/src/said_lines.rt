@@ -10,7 +10,7 @@ fn is_read(alloc: Global, line: &[u8]) -> Result<bool, Memory> {
     Ok(said(alloc, line)?.is_some())
 }
 
-const LINES: [&[u8]; 28] = [
+const LINES: [&[u8]; 33] = [
     b"1 trio ok",
     b"7 get ok 3",
     b"9 sync ok idle 1 2",
@@ -29,6 +29,11 @@ const LINES: [&[u8]; 28] = [
     b"got 18",
     b"sent 44 walk 1 2",
     b"synced 4 2",
+    b"9 collect ok 1 1",
+    b"sent 13 tomb 1 16",
+    b"sent 28 tombed 16 1",
+    b"sent 87 forget 1 16",
+    b"dropped 1 1000/1",
     b"done 1 put 1000/1",
     b"done 2 get 1000/1 3 900150983cd24fb0d6963f7d28e17f72",
     b"done 2 head 1000/1 3",
@@ -41,7 +46,7 @@ const LINES: [&[u8]; 28] = [
     b"end 5 2 19",
 ];
 
-const OTHERS: [&[u8]; 20] = [
+const OTHERS: [&[u8]; 22] = [
     b"",
     b"size 03",
     b"size  3",
@@ -58,6 +63,8 @@ const OTHERS: [&[u8]; 20] = [
     b"done 2 get 1000/1 3 90",
     b"done 5 list none",
     b"ended 2 lost",
+    b"dropped 1",
+    b"dropped 1 1000",
     b"1 trio",
     b"1 trio ok ",
     b"1 Trio ok",

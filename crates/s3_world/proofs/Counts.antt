@@ -9,7 +9,7 @@ use Rattle.layout_roles.specs.declared.cut.Cut.{Cut}
 use Rattle.wire_messages.specs.declared.phase.Phase.{Phase}
 use Rattle.view_model.specs.View.{newest}
 use Rattle.cluster_machine.specs.declared.step.Step.{Step}
-use Rattle.cluster_machine.specs.declared.step.Step.TheVariants.{Trio, Role, Redundancy, Apply, Tick, Skew, Deliver, Lose, Expire, Restart, Gossip, Ack, Sync, SyncAck, Clean, Work, Repair, Open, Phase as Begin, Close}
+use Rattle.cluster_machine.specs.declared.step.Step.TheVariants.{Trio, Role, Redundancy, Apply, Tick, Skew, Deliver, Lose, Expire, Restart, Gossip, Ack, Sync, SyncAck, Clean, Work, Repair, Collect, Open, Phase as Begin, Close}
 use Rattle.cluster_machine.specs.declared.applied.Applied.{Applied}
 use Rattle.cluster_machine.specs.Node.{Call}
 use Rattle.cluster_machine.specs.World.{Sent, Mark, Request, numbered, is_member_at}
@@ -81,6 +81,7 @@ opens_none w (SyncAck n) choice o = either _ _ _ refl refl
 opens_none w (Clean n) choice o = either _ _ _ refl refl
 opens_none w (Work n) choice o = either _ _ _ refl refl
 opens_none w (Repair n) choice o = either _ _ _ refl refl
+opens_none w (Collect n) choice o = either _ _ _ refl refl
 opens_none w (Open n) choice o = absurd o
 opens_none w (Begin q phase) choice o = beginning_opens w q phase (numbered w.requests q)
 opens_none w (Close q) choice o = closing_opens w q (numbered w.requests q)

@@ -381,6 +381,7 @@ impl S3World {
             Event::Clean(node) => self.plain(Step::Clean(*node)),
             Event::Work(node) => self.plain(Step::Work(*node)),
             Event::Repair(node) => self.plain(Step::Repair(*node)),
+            Event::Collect(node) => self.plain(Step::Collect(*node)),
         }
     }
 

@@ -3,7 +3,7 @@ use Rattle.std.proofs.Common.{◌≡◌, ℕ, false, sym, ◌⊎◌, inl, inr, I
 use Rattle.std.specs.Cmp.Lexicographic.{pointwise, told_text}
 use Rattle.std.proofs.lemmas.List.{length-map, take-append-drop}
 use Rattle.store_model.specs.declared.event.Event.{Event}
-use Rattle.store_model.specs.declared.event.Event.TheVariants.{Trio, Block, Bucket, Role, Redundancy, Apply, Tick, Skew, Put, Get, Head, Delete, Copy, List as Keys, Deliver, Lose, Drain, Expire, Restart, Gossip, Ack, Sync, SyncAck, Clean, Work, Repair}
+use Rattle.store_model.specs.declared.event.Event.TheVariants.{Trio, Block, Bucket, Role, Redundancy, Apply, Tick, Skew, Put, Get, Head, Delete, Copy, List as Keys, Deliver, Lose, Drain, Expire, Restart, Gossip, Ack, Sync, SyncAck, Clean, Work, Repair, Collect}
 use Rattle.text_model.specs.Grammar.{is_key, is_prefix, prefix_word, words_of, first_word}
 use Rattle.text_model.specs.Words.{IsSpelledBy}
 use Rattle.schedule_text.specs.declared.fault.LineFault.{LineFault}
@@ -159,6 +159,7 @@ has_kind w ws (SyncAck _) h = (kind.SyncAck, let s = h.spelled in cc)
 has_kind w ws (Clean _) h = (kind.Clean, let s = h.spelled in cc)
 has_kind w ws (Work _) h = (kind.Work, let s = h.spelled in cc)
 has_kind w ws (Repair _) h = (kind.Repair, let s = h.spelled in cc)
+has_kind w ws (Collect _) h = (kind.Collect, let s = h.spelled in cc)
 
 -- a first word of no kind leaves the line unread
 pub no_kind : (words : Words) → 1 ≤ length words → (o : Option Kind) → Finds (λ k. at words 0 ≡ kind_text k) o → o ≡ None → (f : LineFault) → Reads (IsSpelledBy (texts words)) (Err f)

@@ -37,6 +37,7 @@ kind_text kind.SyncAck = codes "syncack"
 kind_text kind.Clean = codes "clean"
 kind_text kind.Work = codes "work"
 kind_text kind.Repair = codes "repair"
+kind_text kind.Collect = codes "collect"
 
 -- two words name a bucket and a key
 abbrev pub IsObject : List (List ℕ) → List ℕ × List ℕ → Type 0

@@ -228,6 +228,12 @@ fn repair(words: &[&[u8]]) -> Result<Event, LineFault>
     Ok(Event::Repair(node_alone(words)?))
 }
 
+fn collect(words: &[&[u8]]) -> Result<Event, LineFault>
+    ensures { Reads (IsSpelledBy (codes "collect" ∷ texts words.now)) result }
+{
+    Ok(Event::Collect(node_alone(words)?))
+}
+
 /// The event that the words of a line spell.
 fn spelled(alloc: Global, words: &[&[u8]]) -> Result<Event, LineFault>
     ensures { Reads (IsSpelledBy (texts words.now)) result }
@@ -262,6 +268,7 @@ fn spelled(alloc: Global, words: &[&[u8]]) -> Result<Event, LineFault>
         Kind::Clean => clean(rest),
         Kind::Work => work(rest),
         Kind::Repair => repair(rest),
+        Kind::Collect => collect(rest),
     }
 }
 

@@ -34,6 +34,7 @@ pub(crate) enum Kind {
     Clean,
     Work,
     Repair,
+    Collect,
 }
 
 pub(crate) fn kind_of(word: &[u8]) -> Option<Kind>
@@ -91,6 +92,8 @@ pub(crate) fn kind_of(word: &[u8]) -> Option<Kind>
         Some(Kind::Work)
     } else if is(word, b"repair") {
         Some(Kind::Repair)
+    } else if is(word, b"collect") {
+        Some(Kind::Collect)
     } else {
         None
     }

@@ -41,6 +41,9 @@ module _ (old new : S3World) (told : Told) where
   pub repaired_so : (n : ℕ) → PlaysEvent old new told (event.Repair n) → DoesActs old new (moves (plainly (step.Repair n)) ∷ [])
   repaired_so n h = λ s st. does_event new told s (event.Repair n) (h s st)
 
+  pub collected_so : (n : ℕ) → PlaysEvent old new told (event.Collect n) → DoesActs old new (moves (plainly (step.Collect n)) ∷ [])
+  collected_so n h = λ s st. does_event new told s (event.Collect n) (h s st)
+
 module _ (old : S3World) where
   pub staging_lacks : (n : ℕ) (role : Option (Zone × Kind)) → OverflowsEvent old (event.Role n role) → LacksRoom old (λ _. moves (plainly (step.Role n role)) ∷ [])
   staging_lacks n role h = λ s st. event_lacks s (event.Role n role) (h s st)
@@ -68,3 +71,6 @@ module _ (old : S3World) where
 
   pub repairing_lacks : (n : ℕ) → OverflowsEvent old (event.Repair n) → LacksRoom old (λ _. moves (plainly (step.Repair n)) ∷ [])
   repairing_lacks n h = λ s st. event_lacks s (event.Repair n) (h s st)
+
+  pub collecting_lacks : (n : ℕ) → OverflowsEvent old (event.Collect n) → LacksRoom old (λ _. moves (plainly (step.Collect n)) ∷ [])
+  collecting_lacks n h = λ s st. event_lacks s (event.Collect n) (h s st)

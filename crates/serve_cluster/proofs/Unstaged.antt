@@ -12,14 +12,14 @@ use Rattle.wire_messages.specs.declared.phase.Phase.{Phase}
 use Rattle.wire_messages.specs.declared.phase.PhaseEnd.{PhaseEnd}
 use Rattle.cluster_machine.specs.declared.applied.Applied.{Applied}
 use Rattle.cluster_machine.specs.declared.step.Step.{Step}
-use Rattle.cluster_machine.specs.declared.step.Step.TheVariants.{Trio, Role as Stage, Apply, Tick, Skew, Deliver, Lose, Expire, Restart, Gossip, Ack, Sync, SyncAck, Clean, Work, Repair, Open, Phase as Begin, Close}
+use Rattle.cluster_machine.specs.declared.step.Step.TheVariants.{Trio, Role as Stage, Apply, Tick, Skew, Deliver, Lose, Expire, Restart, Gossip, Ack, Sync, SyncAck, Clean, Work, Repair, Collect, Open, Phase as Begin, Close}
 use Rattle.cluster_machine.specs.declared.step.Step.TheVariants as step
 use Rattle.cluster_machine.specs.declared.step.Refusal.{Refusal}
 use Rattle.cluster_machine.specs.declared.step.Refusal.TheVariants.{VersionTaken, VersionLimit, NotMember, NoSuchMessage, Lost, NoSuchRequest, AlreadyEnded}
 use Rattle.cluster_machine.specs.Choices.{Decision}
 use Rattle.cluster_machine.specs.Layouts.{layouts, has_none}
 use Rattle.cluster_machine.specs.declared.step.Action.{Action}
-use Rattle.cluster_machine.specs.declared.step.Action.TheVariants.{Ack as RaiseAck, Sync as GoOn, SyncAck as RaiseSyncAck, Clean as CleanUp, Work as WorkOff, Repair as Mend}
+use Rattle.cluster_machine.specs.declared.step.Action.TheVariants.{Ack as RaiseAck, Sync as GoOn, SyncAck as RaiseSyncAck, Clean as CleanUp, Work as WorkOff, Repair as Mend, Collect as Gather}
 use Rattle.cluster_machine.specs.Acts.{Acted, acts}
 use Rattle.cluster_machine.specs.Receives.{receives}
 use Rattle.cluster_machine.specs.Node.{Call, Ended}
@@ -122,6 +122,7 @@ module _ (w : World) where
   step_keeps (Clean n) choice h = of_local n CleanUp
   step_keeps (Work n) choice h = of_local n WorkOff
   step_keeps (Repair n) choice h = of_acting n (not (is_member_at layouts w n)) (acts any_join words layouts n (clock w n) (w.nodes n) Mend)
+  step_keeps (Collect n) choice h = of_local n Gather
   step_keeps (Open n) choice h = by_keeps (is_member_at layouts w n) _ (refusal w NotMember) (keeps _ refl) (of_refusal NotMember)
   step_keeps (Begin q phase) choice h = of_beginning q phase (numbered w.requests q)
   step_keeps (Close q) choice h = of_closing q (numbered w.requests q)

@@ -150,6 +150,7 @@ fn event_of(action: Action, node: u8) -> Event
         Action::Clean => Event::Clean(node),
         Action::Work => Event::Work(node),
         Action::Repair => Event::Repair(node),
+        Action::Collect => Event::Collect(node),
     }
 }
 

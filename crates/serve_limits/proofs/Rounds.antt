@@ -1,28 +1,34 @@
 -- What a node does begins no round or repair, but where it goes on with its rounds, or repairs.
-use Rattle.std.specs.Prelude.{◌≡◌, ◌≤◌, ◌+◌, ℕ, suc, Bool, true, false, ◌==◌, leb, nat_lt, not, cond, List, [], ◌∷◌, ◌++◌, Option, Some, None, map, refl}
+use Rattle.std.specs.Prelude.{◌≡◌, ◌≤◌, ◌+◌, ℕ, suc, Bool, true, false, ◌==◌, ◌&&◌, leb, nat_lt, not, cond, List, [], ◌∷◌, ◌++◌, Option, Some, None, map, refl}
 use Rattle.std.proofs.Common.{◌∙◌, arith}
 use Rattle.blake2_hash.specs.declared.digest.Hash32.{Hash32}
 use Rattle.layout_roles.specs.declared.layout.Layout.{Layout}
 use Rattle.view_model.specs.View.{View, newest, oldest, read_version, layout_at, merged, cleaned}
-use Rattle.table_schema.specs.Words.{Words}
+use Rattle.table_schema.specs.Words.{Words, partition_of}
+use Rattle.table_model.specs.Rows.{row_at}
+use Rattle.gc_model.specs.declared.collection.Collection.{Collection}
+use Rattle.gc_model.specs.declared.collection.GcEnd.{GcEnd}
+use Rattle.gc_model.specs.declared.collection.GcEnd.TheVariants.{Wait, Closed, Complete}
+use Rattle.gc_model.specs.Collecting.{Open, numbered as numbered_open, closed, answer_end, answered}
 use Rattle.quorum_model.specs.Quorum.{is_kept, with_confirmation}
 use Rattle.quorum_model.specs.Answers.{first_two_at}
 use Rattle.quorum_model.specs.Window.{Window}
 use Rattle.walk_model.specs.Walking.{is_open}
 use Rattle.wire_messages.specs.declared.message.Message.{Message}
-use Rattle.wire_messages.specs.declared.message.Message.TheVariants.{Get, Row, Range, Rows, Store, Stored, Behind, NotHere, BlockGet, Block, NoBlock, Walk as AsksValue, Same as HasSame, Differ}
+use Rattle.wire_messages.specs.declared.message.Message.TheVariants.{Get, Row, Range, Rows, Store, Stored, Behind, NotHere, BlockGet, Block, NoBlock, Walk as AsksValue, Same as HasSame, Differ, Tomb, Tombed, Forget}
 use Rattle.wire_messages.specs.declared.message.Tag.{Tag}
 use Rattle.wire_messages.specs.declared.message.Tag.TheVariants.{Call as ForCall, Round as ForRound, Item as ForItem}
 use Rattle.wire_messages.specs.declared.phase.Phase.{Phase}
 use Rattle.wire_messages.specs.declared.phase.Phase.TheVariants.{Read, Range as Scans, Store as Keeps, Block as Fetches}
 use Rattle.cluster_machine.specs.declared.step.Action.{Action}
-use Rattle.cluster_machine.specs.declared.step.Action.TheVariants.{Ack as RaiseAck, Sync as GoOn, SyncAck as RaiseSyncAck, Clean as CleanUp, Work as WorkOff, Repair as Mend}
+use Rattle.cluster_machine.specs.declared.step.Action.TheVariants.{Ack as RaiseAck, Sync as GoOn, SyncAck as RaiseSyncAck, Clean as CleanUp, Work as WorkOff, Repair as Mend, Collect as Gather}
 use Rattle.cluster_machine.specs.declared.step.LocalEnd.{LocalEnd}
 use Rattle.cluster_machine.specs.Layouts.{layouts, is_given, is_stored}
 use Rattle.cluster_machine.specs.Node.{Present, resting, asking, scanning, storing, fetching, Call, Part, Round, Mending, Walk, Node, Packet, says, shows, Did, quiet}
 use Rattle.cluster_machine.specs.Rows.{block_at, accepts_read, accepts_all, sees}
 use Rattle.cluster_machine.specs.Phases.{asked, looked, stored, value_after, window_at, row_came, rows_came, stored_came, block_came, at_call, call_at, begins}
 use Rattle.cluster_machine.specs.Rounds.{is_complete, parts_of, walks_of, other_nodes, goes_on, may_sync, begin_round, walked_anew, found_same, walk_after, walk_at, walks_after, round_walks, mending_walks, at_walk, mending_came, with_mending, with_lasting, late_came, answer_came}
+use Rattle.cluster_machine.specs.Collects.{has_bytes, has_digest, forgets_row, drops_row, merges, finishes, answered_to}
 use Rattle.cluster_machine.specs.Receives.{where_stored, gives_block, takes, compares, round_came, hears, receives, walks_on}
 use Rattle.cluster_machine.specs.Acts.{Acted, syncs, acts}
 
@@ -165,6 +171,31 @@ module _ {R : Type 0} (join : R → R → R) (s : Words R) where
       confirms_same now from (ForRound number p) = came_same from number p x.round
       confirms_same now from (ForItem number) = refl
 
+      -- ---- collections
+
+      forgotten_same : (table : ℕ) (key : List ℕ) (test : R → Bool) (o : Option R) → Same (forgets_row join s x table key test o)
+      forgotten_same table key test None = refl
+      forgotten_same table key test (Some r) = either (test r) _ (quiet x) refl refl
+
+      dropped_same : (o : Open) (c : Collection) (row : Option R) → Same (drops_row join s id (record x { gc = o }) c row)
+      dropped_same o c None = refl
+      dropped_same o c (Some r) = refl
+
+      finished_same : (o : Option Collection) → Same (finishes join s layouts id x o)
+      finished_same None = refl
+      finished_same (Some c) =
+          let row = row_at join s x.accepted 1 c.key in
+          either ((newest layouts.reading x.view == c.newest) && has_bytes join s c.row row) _ _ (dropped_same (closed c.number x.gc) c row) refl
+
+      tombed_same : (number round : ℕ) (o : Open) (e : GcEnd) → Same (answered_to join s layouts id x number round o e)
+      tombed_same number round o Wait = refl
+      tombed_same number round o Closed = refl
+      tombed_same number round o Complete = either (round == 2) _ _ (finished_same (numbered_open number x.gc)) refl
+
+      merged_same : (now : ℕ) (o : Option R) → (merges join s layouts id now x o).rounds ≡ x.rounds
+      merged_same now None = refl
+      merged_same now (Some r) = node_either x.rounds (is_given layouts x.view id (partition_of s r)) _ _ refl refl
+
       hears_same : (now from : ℕ) (m : Message R) → Same (hears join s layouts id now x from m)
       hears_same now from (Get request phase at table key) = here from request phase at _ refl
       hears_same now from (Row request phase row) = in_call phase (λ c. row_came join x c from row c.present) (call_at x.calls request) (λ c. row_same c from row c.present)
@@ -180,6 +211,9 @@ module _ {R : Type 0} (join : R → R → R) (s : Words R) where
       hears_same now from (AsksValue tag named p table prefix hash) = compares_same from tag named p table prefix hash
       hears_same now from (HasSame tag table prefix) = walks_same from tag table prefix None
       hears_same now from (Differ tag table prefix pairs) = walks_same from tag table prefix (Some pairs)
+      hears_same now from (Tomb number round row) = merged_same now (s.read row)
+      hears_same now from (Tombed number round named) = tombed_same number round (answered number round from named now x.gc) (answer_end number round from named x.gc)
+      hears_same now from (Forget table key hash) = forgotten_same table key (has_digest join s hash.0) (row_at join s x.accepted table key)
 
       -- a packet begins none
       pub receives_same : (now from : ℕ) (p : Packet R Layout) → (receives join s layouts id now x from p).node.rounds ≡ x.rounds
@@ -211,6 +245,7 @@ module _ {R : Type 0} (join : R → R → R) (s : Words R) where
       acts_more now CleanUp = let e = sees_rounds now x (cleaned layouts.reading x.view) in omega (arith, e)
       acts_more now WorkOff = omega arith
       acts_more now Mend = omega arith
+      acts_more now Gather = omega arith
 
   -- a phase that begins begins none
   pub begins_same : (kept : List R) (x : Machine) (c : Call R) (phase : Phase R) → (begins s layouts kept x c phase).node.rounds ≡ x.rounds

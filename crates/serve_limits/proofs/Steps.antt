@@ -12,9 +12,9 @@ use Rattle.table_schema.specs.Words.{Words}
 use Rattle.wire_messages.specs.declared.phase.Phase.{Phase}
 use Rattle.cluster_machine.specs.declared.applied.Applied.{Applied}
 use Rattle.cluster_machine.specs.declared.step.Step.{Step}
-use Rattle.cluster_machine.specs.declared.step.Step.TheVariants.{Trio, Role as Stage, Redundancy as Spread, Apply, Tick, Skew, Deliver, Lose, Expire, Restart, Gossip, Ack, Sync as Syncs, SyncAck, Clean, Work, Repair, Open, Phase as Begin, Close}
+use Rattle.cluster_machine.specs.declared.step.Step.TheVariants.{Trio, Role as Stage, Redundancy as Spread, Apply, Tick, Skew, Deliver, Lose, Expire, Restart, Gossip, Ack, Sync as Syncs, SyncAck, Clean, Work, Repair, Collect, Open, Phase as Begin, Close}
 use Rattle.cluster_machine.specs.declared.step.Action.{Action}
-use Rattle.cluster_machine.specs.declared.step.Action.TheVariants.{Ack as RaiseAck, Sync as GoOn, SyncAck as RaiseSyncAck, Clean as CleanUp, Work as WorkOff, Repair as Mend}
+use Rattle.cluster_machine.specs.declared.step.Action.TheVariants.{Ack as RaiseAck, Sync as GoOn, SyncAck as RaiseSyncAck, Clean as CleanUp, Work as WorkOff, Repair as Mend, Collect as Gather}
 use Rattle.cluster_machine.specs.declared.step.Refusal.{Refusal}
 use Rattle.cluster_machine.specs.declared.step.Refusal.TheVariants.{VersionTaken, VersionLimit, NotMember, NoSuchMessage, Lost, NoSuchRequest, AlreadyEnded}
 use Rattle.cluster_machine.specs.Layouts.{layouts, is_member, has_none}
@@ -154,6 +154,7 @@ module _ {R : Type 0} (join : R → R → R) (s : Words R) (w : Model R) where
   step_adds (Clean n) choice even = acting_adds 0 0 0 n (has_none layouts (w.nodes n).view) CleanUp (omega arith)
   step_adds (Work n) choice even = acting_adds 0 0 0 n (has_none layouts (w.nodes n).view) WorkOff (omega arith)
   step_adds (Repair n) choice even = acting_adds 0 0 1 n (not (is_member layouts (w.nodes n).view n)) Mend (omega arith)
+  step_adds (Collect n) choice even = acting_adds 0 0 0 n (has_none layouts (w.nodes n).view) Gather (omega arith)
   step_adds (Open n) choice even = opening_adds n
   step_adds (Begin q phase) choice even = beginning_adds 0 0 0 q phase (numbered w.requests q)
   step_adds (Close q) choice even = closing_adds 0 0 0 q (numbered w.requests q)

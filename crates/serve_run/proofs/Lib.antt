@@ -4,6 +4,7 @@ pub mod ToCome
 pub mod Input
 pub mod Sized
 pub mod Opening
+mod Never
 pub mod Requests
 pub mod InPart
 pub mod Serving

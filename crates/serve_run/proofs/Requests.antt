@@ -13,6 +13,7 @@ use Rattle.serve_run.specs.declared.plan.Plan.{Plan}
 use Rattle.serve_run.specs.Start.{opening}
 use Rattle.serve_run.specs.Begun.{begun}
 use Rattle.serve_run.specs.Served.{all_acts, state_after, AreKept}
+use Rattle.serve_run.proofs.Never.{server_never_collects}
 
 module _ (p : Plan) (first : Layout) where
   pub run_is : (t : Changing) (jobs : List (ℕ × Job)) → t ≡ after_jobs changing (begun p first) jobs → t.cluster.run ≡ state_after p first jobs
@@ -26,4 +27,4 @@ module _ (p : Plan) (first : Layout) where
       let runs = through_runs (begun p first) jobs h in
       let l = acts_lawful start opens (acts_through (begun p first) jobs) lawful runs.0 in
       let f = acts_fit start opens (acts_through (begun p first) jobs) fit runs.1 in
-      record { lawful = l; fit = f; promises = keeps (all_acts p first jobs) l f }
+      record { lawful = l; fit = f; never = server_never_collects p first jobs; promises = keeps (all_acts p first jobs) l f }

@@ -8,6 +8,7 @@ use Rattle.layout_roles.specs.Text.{set_lines}
 use Rattle.store_model.specs.Run.{State, start}
 use Rattle.store_model.specs.Acts.{Act, after_acts, AreLawfulActs, ActsFit}
 use Rattle.store_model.specs.Moments.{AtEachMoment}
+use Rattle.store_laws.specs.Hashed.{NeverCollect}
 use Rattle.store_anchors.specs.Promises.{KeepsPromises}
 use Rattle.text_model.specs.Transcript.{line_at, end_line}
 use Rattle.serve_model.specs.declared.served.Served.{Served}
@@ -38,10 +39,11 @@ left_after p first jobs = (after_jobs changing (begun p first) jobs).to_come
 
 -- ---- what is promised of them
 
--- the acts are lawful and fit, and at each moment of them, within drains too, what is promised holds
+-- the acts are lawful and fit, none of them is `collect`, and at each moment of them, within drains too, what is promised holds
 pub record AreKept (acts : List Act) : Type 0 where
   pub lawful : AreLawfulActs start acts
   pub fit : ActsFit start acts
+  pub never : NeverCollect acts
   pub promises : AtEachMoment KeepsPromises acts
 
 -- ---- what was written

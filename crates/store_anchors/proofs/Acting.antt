@@ -63,7 +63,7 @@ use Rattle.store_laws.proofs.Covering.{IsSaid}
 use Rattle.store_laws.proofs.Records.{acknowledged_is, is_in}
 use Rattle.store_laws.proofs.Values.{read_written}
 use Rattle.store_laws.proofs.Acting.{number_fits}
-use Rattle.store_anchors.specs.Copied.{Copying, IsTaken}
+use Rattle.store_anchors.specs.Copied.{Copying}
 use Rattle.store_anchors.specs.Stored.{blocks_of}
 use Rattle.store_anchors.specs.Whole.{SaysAllBytes}
 use Rattle.store_anchors.proofs.Cited.{Cited}
@@ -73,7 +73,7 @@ use Rattle.store_anchors.proofs.Lines.{Tells, tells_later, tells_none, tells_one
 use Rattle.store_anchors.proofs.Naming.{named}
 use Rattle.store_anchors.proofs.Reading.{finds, piece_there}
 use Rattle.store_anchors.proofs.Sources.{not_below, said_found}
-use Rattle.store_anchors.proofs.Taking.{AreTaken, FollowsCopies, HasBegun, HasSource, IsFollowed, IsFollowedIn, IsOfSource, Knows, KnowsOn, followed_first, followed_set, followed_told}
+use Rattle.store_anchors.proofs.Taking.{AreTaken, FollowsCopies, HasBegun, HasSource, IsFollowed, IsFollowedIn, IsOfSource, IsTakenIf, Knows, KnowsOn, followed_first, followed_set, followed_told}
 use Rattle.cluster_machine.specs.declared.line.Line.TheVariants.{Done, Listed as Shows, Ended as HasEnded}
 use Rattle.cluster_machine.specs.declared.line.EndWord.TheVariants.{Superseded as EndedSo}
 use Rattle.flow_model.specs.Next.{wanted}
@@ -89,16 +89,17 @@ use Rattle.store_laws.proofs.Ends.{IsEnd, HasRead}
 use Rattle.store_laws.proofs.Going.{flow_of}
 use Rattle.store_laws.proofs.Grown.{Rests}
 use Rattle.store_laws.proofs.Hashes.{HasHash}
-use Rattle.store_laws.proofs.Sound.{IsStage, IsSound}
+use Rattle.store_laws.proofs.Sound.{IsStage, IsSound, sights}
 use Rattle.store_anchors.proofs.Kept.{Past, HasPiece, HasAll, IsLong}
 use Rattle.store_anchors.proofs.Laid.{HasUploaded, Stores, past, IsLaidIn}
 use Rattle.store_anchors.proofs.Steps.{HasPut, HasGot}
 use Rattle.store_anchors.proofs.Going.{asks_laid, opens_laid, scans_laid, fetches_laid, uploading_laid, completes_laid, block_laid, waits_laid, finishes_laid}
 use Rattle.store_laws.proofs.Hashing.{FitIn}
+use Rattle.store_laws.proofs.Deeds.{Deed, IsSafe}
 
 -- what an outcome of this state comes to after these steps: the invariant holds, its lines tell of whole versions, and copies took what was written
-abbrev pub OutcomeLaid : (List ℕ → Type 0) → List Moving → State → Outcome → Type 0
-OutcomeLaid H ms s o = IsLaidIn H (ms ++ o.moves) o.state × Tells (past (ms ++ o.moves) o.state.world o.state.draws) o.lines × FollowsCopies ms s o
+abbrev pub OutcomeLaid : (Deed → Type 0) → List Moving → State → Outcome → Type 0
+OutcomeLaid H ms s o = IsLaidIn H (ms ++ o.moves) o.state × Tells (past (ms ++ o.moves) o.state.world o.state.draws) o.lines × FollowsCopies (IsSafe H) ms s o
 
 -- this is what was written as the version: what is stored beside the bytes, and these, if they aren't in blocks or no two of the blocks have one digest
 pub record IsBodyOf (blocks : List (List ℕ)) (draws : List Draw) (v : Version) (meta : Meta) (body : List ℕ) : Type 0 where
@@ -108,9 +109,9 @@ pub record IsBodyOf (blocks : List (List ℕ)) (draws : List Draw) (v : Version)
   pub body_is : (is_long content.body ≡ true → NoClash blocks) → body ≡ content.body
 
 -- request p ended superseded with this identifier: the version was overwritten, and it is one of the source where the request is a copy
-pub record EndsRightly (moves : List Moving) (s : State) (p id : ℕ) : Type 0 where
+pub record EndsRightly (C : Type 0) (moves : List Moving) (s : State) (p id : ℕ) : Type 0 where
   pub replaced : IsReplaced (past moves s.world s.draws) s.asked p id
-  pub source : (copy : Copying) → copy.request ≡ p → IsFollowedIn moves s copy → IsOfSource s.draws copy id
+  pub source : (copy : Copying) → copy.request ≡ p → IsFollowedIn C moves s copy → IsOfSource s.draws copy id
 
 -- a request ends otherwise than superseded
 abbrev pub IsOtherwise : FlowEnd → Type 0
@@ -156,7 +157,7 @@ parts_same x y xs ys e = (cc, cc)
 none_more : {A : Type 0} (x : A) (xs : List A) → [] ≡ x ∷ xs → ⊥
 none_more x xs e = cc
 
-module _ {H : List ℕ → Type 0} where
+module _ {H : Deed → Type 0} where
   module _ (cited : Cited H) (moves : List Moving) (s : State) (q : ℕ) (a : Asked) (at : numbered s.asked q ≡ Some a) (rests : Rests s q) (block : ℕ) (laid : IsLaidIn H moves s) where
     -- what there is
     abbrev pub here : Past
@@ -168,35 +169,35 @@ module _ {H : List ℕ → Type 0} where
 
     -- the request is this copy
     abbrev pub IsIt : Copying → Type 0
-    IsIt copy = (copy.request ≡ q) × IsFollowedIn moves s copy
+    IsIt copy = (copy.request ≡ q) × IsFollowedIn (IsSafe H) moves s copy
 
     -- what the request knows where it is a copy
-    know : (stage : Stage) → a.flow ≡ Some (flow_of q block stage) → (copy : Copying) → IsIt copy → Knows (blocks_of moves) s.draws copy stage
+    know : (stage : Stage) → a.flow ≡ Some (flow_of q block stage) → (copy : Copying) → IsIt copy → Knows (IsSafe H) (blocks_of moves) s.draws copy stage
     know stage flow_is copy it = it.1.knows a (flow_of q block stage) (ap (numbered s.asked) it.0 ∙ at) flow_is
 
     -- a copy follows where the request goes
-    follows : (ds : List Draw) (flow : Option Flow) (rest : List Moving) → AllByRecursion (λ (d : Draw). d.request ≡ q) ds → ((copy : Copying) → IsIt copy → KnowsOn (blocks_of moves) s.draws s.asked s.history q a at ds flow copy) →
-        (copy : Copying) → IsFollowedIn moves s copy → IsFollowed (blocks_of (moves ++ rest)) (ds ++ s.draws) (set_flow s q a flow) s.history copy
+    follows : (ds : List Draw) (flow : Option Flow) (rest : List Moving) → AllByRecursion (λ (d : Draw). d.request ≡ q) ds → ((copy : Copying) → IsIt copy → KnowsOn (blocks_of moves) s.draws s.asked s.history q a at (IsSafe H) ds flow copy) →
+        (copy : Copying) → IsFollowedIn (IsSafe H) moves s copy → IsFollowed (IsSafe H) (blocks_of (moves ++ rest)) (ds ++ s.draws) (set_flow s q a flow) s.history copy
     follows ds flow rest own knows copy h =
         followed_first moves rest (ds ++ s.draws) (set_flow s q a flow) s.history copy
         (followed_set (blocks_of moves) s.draws s.asked s.history q a at ds flow own (λ copy request it. knows copy (request, it)) copy h)
 
     -- the request draws and goes on
     pub draws_on : (ds : List Draw) (stage : Stage) (phase : Phase AnyRow) → GoesLaid cited moves s q a at rests block laid ds stage phase → AllByRecursion (λ (d : Draw). d.request ≡ q) ds →
-        ((copy : Copying) → IsIt copy → Knows (blocks_of moves) (ds ++ s.draws) copy stage × AreTaken (blocks_of moves) copy (ds ++ s.draws)) → StepLaid ds (More (flow_of q block stage) phase)
+        ((copy : Copying) → IsIt copy → Knows (IsSafe H) (blocks_of moves) (ds ++ s.draws) copy stage × AreTaken (IsSafe H) (blocks_of moves) copy (ds ++ s.draws)) → StepLaid ds (More (flow_of q block stage) phase)
     draws_on ds stage phase h own knows fits = (
       h fits,
       step_whole (past (moves ++ phases q phase ∷ []) (doing s (phases q phase)).world (ds ++ s.draws)) s (phases q phase),
       follows ds (Some (flow_of q block stage)) (phases q phase ∷ []) own (λ copy it. (
-        (λ f e. (let same : flow_of q block stage ≡ f = cc in subst (λ (g : Flow). Knows (blocks_of moves) (ds ++ s.draws) copy g.stage) same (knows copy it).0)),
+        (λ f e. (let same : flow_of q block stage ≡ f = cc in subst (λ (g : Flow). Knows (IsSafe H) (blocks_of moves) (ds ++ s.draws) copy g.stage) same (knows copy it).0)),
         (knows copy it).1,
       )),
     )
 
-    pub goes : (stage : Stage) (phase : Phase AnyRow) → GoesLaid cited moves s q a at rests block laid [] stage phase → ((copy : Copying) → IsIt copy → Knows (blocks_of moves) s.draws copy stage) → StepLaid [] (More (flow_of q block stage) phase)
+    pub goes : (stage : Stage) (phase : Phase AnyRow) → GoesLaid cited moves s q a at rests block laid [] stage phase → ((copy : Copying) → IsIt copy → Knows (IsSafe H) (blocks_of moves) s.draws copy stage) → StepLaid [] (More (flow_of q block stage) phase)
     goes stage phase h knows = draws_on [] stage phase h tt (λ copy it. (knows copy it, it.1.taken))
 
-    ends : (end : FlowEnd) → ((p id : ℕ) → record_of q end ≡ Ended p (WasSuperseded id) → EndsRightly moves s p id) → Tells here (lines_of_end q a.kind end) → StepLaid [] (End end)
+    ends : (end : FlowEnd) → ((p id : ℕ) → record_of q end ≡ Ended p (WasSuperseded id) → EndsRightly (IsSafe H) moves s p id) → Tells here (lines_of_end q a.kind end) → StepLaid [] (End end)
     ends end passed tells fits =
         let m : Moving = plainly (step.Close q) in (
           finishes_laid cited moves s q a at rests block laid end (λ p id e. (passed p id e).replaced) fits,
@@ -210,12 +211,12 @@ module _ {H : List ℕ → Type 0} where
     ends_otherwise end other tells = ends end (λ p id e. absurd (otherwise_recorded q end other p id e)) tells
 
     -- it needs its client
-    needs : (stage : Stage) → Holds here q block stage → ((copy : Copying) → IsIt copy → Knows (blocks_of moves) s.draws copy stage) → (wanted : ℕ) → StepLaid [] (Need (flow_of q block stage) wanted)
+    needs : (stage : Stage) → Holds here q block stage → ((copy : Copying) → IsIt copy → Knows (IsSafe H) (blocks_of moves) s.draws copy stage) → (wanted : ℕ) → StepLaid [] (Need (flow_of q block stage) wanted)
     needs stage holds knows wanted fits = (
       needs_laid cited moves s q a at rests block laid stage holds,
       tells_none (past (moves ++ []) s.world s.draws),
       follows [] (Some (flow_of q block stage)) [] tt (λ copy it. (
-        (λ f e. (let same : flow_of q block stage ≡ f = cc in subst (λ (g : Flow). Knows (blocks_of moves) s.draws copy g.stage) same (knows copy it))),
+        (λ f e. (let same : flow_of q block stage ≡ f = cc in subst (λ (g : Flow). Knows (IsSafe H) (blocks_of moves) s.draws copy g.stage) same (knows copy it))),
         it.1.taken,
       )),
     )
@@ -246,11 +247,11 @@ module _ {H : List ℕ → Type 0} where
 
     -- the request found a version of its source where it is a copy
     abbrev pub FoundSource : Version → Aim → Type 0
-    FoundSource v aim = (copy : Copying) → IsIt copy → HasSource s.draws copy v aim
+    FoundSource v aim = (copy : Copying) → IsIt copy → HasSource (IsSafe H) s.draws copy v aim
 
     -- what a copy writes was written to its source
-    takes_source : AreApart s.draws → (copy : Copying) (name : Name) (headers : Option (List (List ℕ × List ℕ))) (v : Version) (meta : Meta) (body : List ℕ) → IsBodyOf (blocks_of moves) s.draws v meta body → HasSource s.draws copy v (aim.Copy name headers) →
-        IsTaken (blocks_of moves) s.draws copy (wish.Content (record { body = body; headers = unwrap_or headers meta.headers }))
+    takes_source : AreApart s.draws → (copy : Copying) (name : Name) (headers : Option (List (List ℕ × List ℕ))) (v : Version) (meta : Meta) (body : List ℕ) → IsBodyOf (blocks_of moves) s.draws v meta body → HasSource (IsSafe H) s.draws copy v (aim.Copy name headers) →
+        IsTakenIf (IsSafe H) (blocks_of moves) s.draws copy (wish.Content (record { body = body; headers = unwrap_or headers meta.headers }))
     takes_source apart copy name headers v meta body h source =
         let f : FoundIn s.draws copy.source v = source.0 in
         let w : IsWritten s.draws v h.content = h.was_written in
@@ -259,7 +260,7 @@ module _ {H : List ℕ → Type 0} where
         record {
           draw = f.draw;
           drawn = f.drawn;
-          fresh = λ i w ack. subst (λ (u : Version). ¬ Below u w) (sym f.version) (source.2 w (acknowledged_was copy.history i copy.source w ack));
+          fresh = λ safe i w ack. subst (λ (u : Version). ¬ Below u w) (sym f.version) (source.2 safe w (acknowledged_was copy.history i copy.source w ack));
           bucket = f.bucket;
           key = f.key;
           was = h.content;
@@ -306,14 +307,14 @@ module _ {H : List ℕ → Type 0} where
     -- a request whose version's row was deleted
     superseded : (aim : Aim) (v : Version) → FoundSource v aim → IsOwn v → IsPassed here v.id → StepLaid [] (End (Superseded v.id))
     superseded aim v source own passed =
-        let mine : EndsRightly moves s q v.id = record {
+        let mine : EndsRightly (IsSafe H) moves s q v.id = record {
           replaced = record { passed = passed; kind = a.kind; name = a.name; was_asked = record { one = a; is_there = at; kind_is = refl; name_is = refl }; own = own passed };
           source = λ copy is h. record { version = v; found = (source copy (is, h)).0; id_is = refl };
         } in
         ends (Superseded v.id) (λ p id e. (
         let request : q ≡ p = cc in
         let same : v.id ≡ id = cc in
-        subst (λ (r : ℕ). EndsRightly moves s r id) request (subst (EndsRightly moves s q) same mine))) (tells_one here (HasEnded q EndedSo) (λ clash. tt))
+        subst (λ (r : ℕ). EndsRightly (IsSafe H) moves s r id) request (subst (EndsRightly (IsSafe H) moves s q) same mine))) (tells_one here (HasEnded q EndedSo) (λ clash. tt))
 
     opened_laid : AreApart s.draws → (aim : Aim) (v : Version) (meta : Meta) (value : Option AnyRow) → IsAimOf a aim → FoundSource v aim → IsOwn v → (f : IsFound here v meta) →
         (named_by value meta.size ≡ whole (named_pieces f.draw.block f.content.body 0 (suc f.last))) ⊎ ((named_by value meta.size ≡ deleted) × IsPassed here v.id) → StepLaid [] (opened q block aim v meta (named_by value meta.size))
@@ -357,9 +358,9 @@ module _ {H : List ℕ → Type 0} where
 
     -- what the request wishes was written to its source, where it is a copy
     abbrev pub WishesSource : Wish → Type 0
-    WishesSource w = (copy : Copying) → IsIt copy → IsTaken (blocks_of moves) s.draws copy w
+    WishesSource w = (copy : Copying) → IsIt copy → IsTakenIf (IsSafe H) (blocks_of moves) s.draws copy w
 
-    taken_so : (name : Name) (w : Wish) (v : Version) (moment : ℕ) → WishesSource w → (copy : Copying) → IsIt copy → ⊤ × AreTaken (blocks_of moves) copy (draw_so name w v moment ∷ s.draws)
+    taken_so : (name : Name) (w : Wish) (v : Version) (moment : ℕ) → WishesSource w → (copy : Copying) → IsIt copy → ⊤ × AreTaken (IsSafe H) (blocks_of moves) copy (draw_so name w v moment ∷ s.draws)
     taken_so name w v moment source copy it = (tt, ((λ own. source copy it), it.1.taken))
 
     writes_laid : (name : Name) (v : Version) (w : Wish) (moment : ℕ) → WishesSource w → StepLaid (draw_so name w v moment ∷ []) (writes q block name v w)
@@ -432,11 +433,11 @@ abbrev pub HasReadIf : State → ℕ → PhaseEnd AnyRow → Type 0
 HasReadIf s q (Answered value) = HasRead s.asked s.history s.world.reads q value
 HasReadIf s q _ = ⊤
 
-pub read_of : (H : List ℕ → Type 0) (s : State) (q : ℕ) (end : PhaseEnd AnyRow) → IsEnd H s.asked s.draws s.history s.saw s.world.kept s.world.reads q end → HasReadIf s q end
+pub read_of : (H : Deed → Type 0) (s : State) (q : ℕ) (end : PhaseEnd AnyRow) → IsEnd H s.asked s.draws s.history (sights s) s.world.kept s.world.reads q end → HasReadIf s q end
 read_of H s q (Answered value) h = h
 read_of H s q _ h = tt
 
-module _ {H : List ℕ → Type 0} where
+module _ {H : Deed → Type 0} where
   module _ (cited : Cited H) (moves : List Moving) (s : State) (q : ℕ) (a : Asked) (at : numbered s.asked q ≡ Some a) (rests : Rests s q) (block : ℕ) (sound : IsSound H s) (apart : AreApart s.draws) (fated : IsFatedIn moves s) (laid : IsLaidIn H moves s) where
     -- what a request does that waits so when its phase ends so
     abbrev pub StageLaid : ℕ → Stage → PhaseEnd AnyRow → Type 0
@@ -454,19 +455,19 @@ module _ {H : List ℕ → Type 0} where
 
     -- what a read gave of an object is of the source, where the request is a copy
     module _ (name : Name) (aim : Aim) (value : Option AnyRow) (flow_is : a.flow ≡ Some (flow_of q block (Looking name aim))) (end : HasRead s.asked s.history s.world.reads q value) where
-      has_source : (v : Version) (said : Said) → said_of value ≡ said → ((u : Version) → IsSaid u said → v ≡ u) → FoundIn s.draws name v → FoundSource cited moves s q a at rests block laid v aim
-      has_source v said e one f copy it =
+      has_source : (v : Version) (said : Said) → said_of value ≡ said → IsSaid v said → ((u : Version) → IsSaid u said → v ≡ u) → FoundIn s.draws name v → FoundSource cited moves s q a at rests block laid v aim
+      has_source v said e own one f copy it =
           let k = know cited moves s q a at rests block laid (Looking name aim) flow_is copy it in
           let b : HasBegun s.history copy = it.1.began in
           let cut : s.history ≡ copy.history ++ began q b.node b.kind b.name ∷ b.after = subst (λ (r : ℕ). s.history ≡ copy.history ++ began r b.node b.kind b.name ∷ b.after) it.0 b.cut in (
             subst (λ (n : Name). FoundIn s.draws n v) k.0 f,
             k.1,
-            λ w ack. not_below cited moves s sound laid q a at block name aim flow_is value end copy.history b.after b.node b.kind b.name cut said v e one w (subst (λ (n : Name). WasAcknowledged copy.history n w) (sym k.0) ack),
+            λ safe w ack. not_below cited moves s sound laid q a at block name aim flow_is value end safe copy.history b.after b.node b.kind b.name cut said v e own one w (subst (λ (n : Name). WasAcknowledged copy.history n w) (sym k.0) ack),
           )
 
       read_source : (said : Said) → said_of value ≡ said → SaysSource cited moves s q a at rests block laid said aim
-      read_source (inline v meta body) e = has_source v (inline v meta body) e (λ u is. is) (said_found cited moves s sound laid q a at block name aim flow_is value end (inline v meta body) e (λ no. cc)).1
-      read_source (in_blocks v meta first) e = has_source v (in_blocks v meta first) e (λ u is. is) (said_found cited moves s sound laid q a at block name aim flow_is value end (in_blocks v meta first) e (λ no. cc)).1
+      read_source (inline v meta body) e = has_source v (inline v meta body) e refl (λ u is. is) (said_found cited moves s sound laid q a at block name aim flow_is value end (inline v meta body) e (λ no. cc)).1
+      read_source (in_blocks v meta first) e = has_source v (in_blocks v meta first) e refl (λ u is. is) (said_found cited moves s sound laid q a at block name aim flow_is value end (in_blocks v meta first) e (λ no. cc)).1
       read_source none e = tt
       read_source (marked v) e = tt
 

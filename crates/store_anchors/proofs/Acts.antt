@@ -48,7 +48,7 @@ use Rattle.store_laws.proofs.Grown.{Rests}
 use Rattle.store_laws.proofs.Once.{IsOnceIn, act_once, start_once}
 use Rattle.store_laws.proofs.Opening.{opening, new_there}
 use Rattle.store_laws.proofs.Placing.{asks_is_step, asks_is_meant, scan_is_step, scan_is_meant}
-use Rattle.store_laws.proofs.Sound.{IsSound}
+use Rattle.store_laws.proofs.Sound.{IsSound, sights}
 use Rattle.store_laws.proofs.Starting.{start_sound}
 use Rattle.store_laws.proofs.Stepping.{step_sound, calm_fine, calm_ends}
 use Rattle.std.proofs.Common.{lit<, inl, inr, ◌≤◌, arith}
@@ -83,9 +83,10 @@ use Rattle.store_anchors.proofs.Steps.{HasGot, calm_got, calm_now, calm_laid, be
 use Rattle.store_anchors.proofs.Going.{BeginsSo, read_begins, range_begins}
 use Rattle.store_anchors.proofs.Acting.{OutcomeLaid, stage_laid, read_of}
 use Rattle.store_laws.proofs.Hashing.{FitIn, ActsIn, in_parts}
+use Rattle.store_laws.proofs.Deeds.{Deed, IsSafe}
 
 -- what holds after acts
-pub record IsHeld (H : List ℕ → Type 0) (ms : List Moving) (s : State) : Type 0 where
+pub record IsHeld (H : Deed → Type 0) (ms : List Moving) (s : State) : Type 0 where
   pub sound : IsSound H s
   pub once : IsOnceIn s
   pub laid : IsLaidIn H ms s
@@ -99,7 +100,7 @@ began_is_no_end q n o p id e = cc
 nothing_fated : (ms : List Moving) (s : State) → IsFatedIn ms s → IsFated (stored_in (ms ++ [])) s.asked s.draws
 nothing_fated ms s fated = subst (λ (k : List Moving). IsFated (stored_in k) s.asked s.draws) (sym (append-nil ms)) fated
 
-module _ {H : List ℕ → Type 0} where
+module _ {H : Deed → Type 0} where
   -- draws with one identifier are of one write
   pub draws_apart : (s : State) → IsSound H s → IsOnceIn s → AreApart s.draws
   draws_apart s sound once d e c k same = once.one d e c k (sym (sound.drawn d c).id_is ∙ (same ∙ (sound.drawn e k).id_is))
@@ -116,7 +117,7 @@ module _ {H : List ℕ → Type 0} where
     -- ---- deliveries
 
     follows_laid : (ms : List Moving) (s : State) (q : ℕ) (a : Asked) → numbered s.asked q ≡ Some a → Rests s q → IsSound H s → AreApart s.draws → IsFatedIn ms s → IsLaidIn H ms s → (end : PhaseEnd AnyRow) (flow : Option Flow) → a.flow ≡ flow →
-        IsEnd H s.asked s.draws s.history s.saw s.world.kept s.world.reads q end → HasGot s.asked (past ms s.world s.draws) s.world.reads q end → FitIn H s.world (follows s q a end flow).moves → OutcomeLaid H ms s (follows s q a end flow)
+        IsEnd H s.asked s.draws s.history (sights s) s.world.kept s.world.reads q end → HasGot s.asked (past ms s.world s.draws) s.world.reads q end → FitIn H s.world (follows s q a end flow).moves → OutcomeLaid H ms s (follows s q a end flow)
     follows_laid ms s q a at rests sound apart fated laid end None flow_is is_end got fits = silent_laid ms s laid
     follows_laid ms s q a at rests sound apart fated laid end (Some flow) flow_is is_end got fits =
         let stage = sound.stages q a flow at flow_is in
@@ -125,20 +126,20 @@ module _ {H : List ℕ → Type 0} where
         subst (λ (f : Flow). FitIn H s.world (follows s q a end (Some f)).moves → OutcomeLaid H ms s (follows s q a end (Some f))) (sym same)
         (stage_laid cited ms seeing q a at rests flow.block (saw_sound s (record { request = q; end = end }) (gave_drawn cited.every s q sound end is_end) sound) apart fated laid (clock s.world a.node) flow.stage end (flow_is ∙ ap Some same) stage.1 (read_of H s q end is_end) got) fits
 
-    follow_laid : (ms : List Moving) (s : State) (q : ℕ) (asked : Option Asked) (end : PhaseEnd AnyRow) → numbered s.asked q ≡ asked → Rests s q → IsSound H s → AreApart s.draws → IsFatedIn ms s → IsLaidIn H ms s → IsEnd H s.asked s.draws s.history s.saw s.world.kept s.world.reads q end → HasGot s.asked (past ms s.world s.draws) s.world.reads q end →
+    follow_laid : (ms : List Moving) (s : State) (q : ℕ) (asked : Option Asked) (end : PhaseEnd AnyRow) → numbered s.asked q ≡ asked → Rests s q → IsSound H s → AreApart s.draws → IsFatedIn ms s → IsLaidIn H ms s → IsEnd H s.asked s.draws s.history (sights s) s.world.kept s.world.reads q end → HasGot s.asked (past ms s.world s.draws) s.world.reads q end →
         FitIn H s.world (follow s q asked end).moves → OutcomeLaid H ms s (follow s q asked end)
     follow_laid ms s q None end at rests sound apart fated laid is_end got fits = silent_laid ms s laid
     follow_laid ms s q (Some a) end at rests sound apart fated laid is_end got fits = follows_laid ms s q a at rests sound apart fated laid end a.flow refl is_end got fits
 
     goes_on_laid : (ms : List Moving) (s : State) (ends : List (Ended AnyRow)) → IsSound H s → AreApart s.draws → IsFatedIn ms s → IsLaidIn H ms s →
-        AllByRecursion (λ (e : Ended AnyRow). IsEnd H s.asked s.draws s.history s.saw s.world.kept s.world.reads e.request e.how × Rests s e.request) ends → AllByRecursion (λ (e : Ended AnyRow). HasGot s.asked (past ms s.world s.draws) s.world.reads e.request e.how) ends →
+        AllByRecursion (λ (e : Ended AnyRow). IsEnd H s.asked s.draws s.history (sights s) s.world.kept s.world.reads e.request e.how × Rests s e.request) ends → AllByRecursion (λ (e : Ended AnyRow). HasGot s.asked (past ms s.world s.draws) s.world.reads e.request e.how) ends →
         FitIn H s.world (goes_on s ends).moves → OutcomeLaid H ms s (goes_on s ends)
     goes_on_laid ms s [] sound apart fated laid h got fits = silent_laid ms s laid
     goes_on_laid ms s (e ∷ es) sound apart fated laid h got fits = follow_laid ms s e.request (numbered s.asked e.request) e.how refl h.0.1 sound apart fated laid h.0.0 got.0 fits
 
     -- and so what stays so of versions
     follows_fated : (ms : List Moving) (s : State) (q : ℕ) (a : Asked) → numbered s.asked q ≡ Some a → IsSound H s → IsOnceIn s → IsFatedIn ms s → IsLaidIn H ms s → (end : PhaseEnd AnyRow) (flow : Option Flow) → a.flow ≡ flow →
-        IsEnd H s.asked s.draws s.history s.saw s.world.kept s.world.reads q end → OutcomeFated ms (follows s q a end flow)
+        IsEnd H s.asked s.draws s.history (sights s) s.world.kept s.world.reads q end → OutcomeFated ms (follows s q a end flow)
     follows_fated ms s q a at sound once fated laid end None flow_is is_end = nothing_fated ms s fated
     follows_fated ms s q a at sound once fated laid end (Some flow) flow_is is_end =
         let stage = sound.stages q a flow at flow_is in
@@ -148,12 +149,12 @@ module _ {H : List ℕ → Type 0} where
         (stage_fated ms seeing (saw_sound s (record { request = q; end = end }) (gave_drawn cited.every s q sound end is_end) sound) once laid fated q a at flow.block (clock s.world a.node) flow.stage end (flow_is ∙ ap Some same))
 
     follow_fated : (ms : List Moving) (s : State) (q : ℕ) (asked : Option Asked) (end : PhaseEnd AnyRow) → numbered s.asked q ≡ asked → IsSound H s → IsOnceIn s → IsFatedIn ms s → IsLaidIn H ms s →
-        IsEnd H s.asked s.draws s.history s.saw s.world.kept s.world.reads q end → OutcomeFated ms (follow s q asked end)
+        IsEnd H s.asked s.draws s.history (sights s) s.world.kept s.world.reads q end → OutcomeFated ms (follow s q asked end)
     follow_fated ms s q None end at sound once fated laid is_end = nothing_fated ms s fated
     follow_fated ms s q (Some a) end at sound once fated laid is_end = follows_fated ms s q a at sound once fated laid end a.flow refl is_end
 
     goes_on_fated : (ms : List Moving) (s : State) (ends : List (Ended AnyRow)) → IsSound H s → IsOnceIn s → IsFatedIn ms s → IsLaidIn H ms s →
-        AllByRecursion (λ (e : Ended AnyRow). IsEnd H s.asked s.draws s.history s.saw s.world.kept s.world.reads e.request e.how × Rests s e.request) ends → OutcomeFated ms (goes_on s ends)
+        AllByRecursion (λ (e : Ended AnyRow). IsEnd H s.asked s.draws s.history (sights s) s.world.kept s.world.reads e.request e.how × Rests s e.request) ends → OutcomeFated ms (goes_on s ends)
     goes_on_fated ms s [] sound once fated laid h = nothing_fated ms s fated
     goes_on_fated ms s (e ∷ es) sound once fated laid h = follow_fated ms s e.request (numbered s.asked e.request) e.how refl sound once fated laid h.0.0
 
@@ -434,7 +435,7 @@ module _ {H : List ℕ → Type 0} where
     ActsHeld ms s as' =
         let end : State = after_acts s as' in
         IsHeld H (ms ++ moves_in s as') end × Tells (past (ms ++ moves_in s as') end.world end.draws) (lines_told s as') ×
-        ((copy : Copying) → IsFollowedIn ms s copy → IsFollowedIn (ms ++ moves_in s as') end copy)
+        ((copy : Copying) → IsFollowedIn (IsSafe H) ms s copy → IsFollowedIn (IsSafe H) (ms ++ moves_in s as') end copy)
 
     pub acts_held : (ms : List Moving) (s : State) (as' : List Act) → AreLawfulActs s as' → ActsIn H s as' → IsHeld H ms s → ActsHeld ms s as'
     acts_held ms s [] lawful fit h =
@@ -454,7 +455,7 @@ module _ {H : List ℕ → Type 0} where
     pub start_laid : IsLaidIn H [] start
     start_laid = record {
       room = lit< tt;
-      reached = record { before = []; begin = empty; begun = inl (refl, refl); moves = []; lawful = tt; alike = alike_same empty; before_are = All-nil _; are = All-nil _; hashed_before = λ x h. absurd h; hashed = λ x h. absurd h };
+      reached = record { before = []; begin = empty; begun = inl (refl, refl); moves = []; lawful = tt; alike = alike_same empty; before_are = All-nil _; are = All-nil _; done_before = λ d any h. absurd h; done = λ d any h. absurd h; prompt = λ all are_prompt. record { first = tt; rest = tt; now = refl } };
       stored = All-nil _;
       kept = λ r c. absurd (none_in r c);
       stages = λ q a flow at is. absurd (no_entry q a at);

@@ -1,6 +1,6 @@
 -- Acknowledged blocks are anchored.
 use Rattle.std.specs.Prelude.{◌≡◌, ◌≤◌, ℕ, true, false, cond, Option, Some, List, [], ◌∷◌, refl}
-use Rattle.std.proofs.Common.{ap, sym, subst, ◌∙◌, lit≤, arith}
+use Rattle.std.proofs.Common.{ap, sym, subst, lit≤, arith}
 use Rattle.std.specs.List.{All, Contains}
 use Rattle.std.proofs.lemmas.List.Elements.{All-weaker, All-contains}
 use Rattle.blake2_hash.specs.Hash.{digest_of}
@@ -50,6 +50,7 @@ use Rattle.store_anchors.proofs.Reading.{each_stored}
 use Rattle.store_anchors.proofs.Told.{above_of, complete_drawn, drawn_as, AreApart, one_known, drawn_there, are_drawn, none_aborted}
 use Rattle.store_laws.proofs.Hashing.{ActsIn}
 use Rattle.cluster_machine.specs.Hashes.{NoClash, RunHashes}
+use Rattle.store_laws.proofs.Deeds.{Deed}
 
 -- a block of this hash is there, with bytes of this digest
 block_there : (g : List ℕ → List ℕ) (blocks : List Block) (hash : List ℕ) → HasBlock g blocks hash → (bytes : List ℕ) × Contains blocks (record { hash = hash; bytes = bytes }) × (g bytes ≡ hash)
@@ -73,7 +74,7 @@ References = (digest : List ℕ → List ℕ) (k : Layouts Layout) (trio : Layou
     ¬ (Newer (stored_in moves) key v) → ¬ (WasStored (stored_in moves) key v Aborted) →
     AreTwo (Anchors digest (machine_run any_join words k trio trio_roles empty moves) r)
 
-module _ {H : List ℕ → Type 0} where
+module _ {H : Deed → Type 0} where
   module _ (cited : Cited H) (references : References) (acts : List Act) (lawful : AreLawfulActs start acts) (fit : ActsIn H start acts) where
     abbrev s : State
     s = after_acts start acts

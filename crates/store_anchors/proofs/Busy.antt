@@ -57,7 +57,7 @@ use Rattle.store_laws.proofs.Ends.{ends_are}
 use Rattle.store_laws.proofs.Going.{flow_of}
 use Rattle.store_laws.proofs.Good.{IsGood}
 use Rattle.store_laws.proofs.Once.{IsOnceIn, act_once, delivers_once}
-use Rattle.store_laws.proofs.Sound.{WaitsAt, IsSound}
+use Rattle.store_laws.proofs.Sound.{WaitsAt, IsSound, sights}
 use Rattle.store_laws.proofs.Stepping.{step_sound, calm_fine}
 use Rattle.store_anchors.proofs.Acting.{OutcomeLaid}
 use Rattle.store_anchors.proofs.Acts.{IsHeld, draws_apart, delivers_laid, delivers_fated, act_laid, act_fated, start_held}
@@ -72,6 +72,7 @@ use Rattle.store_anchors.proofs.Staying.{FirstEnded}
 use Rattle.store_anchors.proofs.Steps.{HasGot, calm_got, calm_now, calm_laid, laid_different}
 use Rattle.store_anchors.proofs.Told.{AreApart}
 use Rattle.store_laws.proofs.Hashing.{FitIn, ActsIn, in_parts}
+use Rattle.store_laws.proofs.Deeds.{Deed}
 
 -- ---- what a request does next
 
@@ -127,7 +128,7 @@ module _ (id block : ℕ) where
         | false ↦ tt
       ]
 
-module _ {H : List ℕ → Type 0} where
+module _ {H : Deed → Type 0} where
   module _ (cited : Cited H) (moves : List Moving) (s : State) (q : ℕ) (a : Asked) (at : numbered s.asked q ≡ Some a) (block : ℕ) (sound : IsSound H s) (apart : AreApart s.draws) (fated : IsFatedIn moves s) (laid : IsLaidIn H moves s) where
     -- no request waits on when its phase has ended
     pub going : (now : ℕ) (stage : Stage) (end : PhaseEnd AnyRow) → a.flow ≡ Some (flow_of q block stage) → HasGot s.asked (past moves s.world s.draws) s.world.reads q end → IsGoing (flow_goes_on q block stage end now)
@@ -202,7 +203,7 @@ takes_busy s q a ds (End end) at h placed rest =
     let k = close_kept s.world placed (OtherNeeds s.asked q) q (λ n c there is. own_or_other s.asked q c.request (rest n c there is)) in
     record { placed = k.places; rests = λ n c there is. other_set s.asked q c.request a None at (k.rests n c there is) }
 
-module _ {H : List ℕ → Type 0} where
+module _ {H : Deed → Type 0} where
   module _ (cited : Cited H) where
     follows_busy : (ms : List Moving) (s : State) (q : ℕ) (a : Asked) (flow : Flow) → numbered s.asked q ≡ Some a → IsSound H s → AreApart s.draws → IsFatedIn ms s → IsLaidIn H ms s → (end : PhaseEnd AnyRow) → a.flow ≡ Some flow → HasGot s.asked (past ms s.world s.draws) s.world.reads q end →
         ArePlaced s.world.nodes s.world.requests → OnlyRest (MayRest s.asked q) s.world.nodes → IsBusy (follows s q a end (Some flow)).state
@@ -233,7 +234,7 @@ module _ {H : List ℕ → Type 0} where
         let e = effect s d in
         let calm = is_calm cited.every s d tt sound in
         let waits = all_weaker _ (λ (x : Ended AnyRow). WaitsAt s.asked calm.node x.request) (λ x h. h.1) e.ends
-        (ends_are H s.asked s.draws s.history s.saw calm.node s.world.kept s.world.reads e.keeps e.reads (s.world.nodes calm.node).calls (changed e.nodes s.world.nodes calm.node).calls e.ends (sound.presents calm.node) calm.ends).0 in
+        (ends_are H s.asked s.draws s.history (sights s) calm.node s.world.kept s.world.reads e.keeps e.reads (s.world.nodes calm.node).calls (changed e.nodes s.world.nodes calm.node).calls e.ends (sound.presents calm.node) calm.ends).0 in
         let h = heard s.world busy.placed (NeedsClient s.asked) busy.rests (laid_different cited ms s laid) m in
         goes_on_busy (ms ++ d ∷ []) (doing s d) calm.node e.ends
         (step_sound s d sound (tt, tt, tt, fits.0.1, tt) fits.0.2 (All-nil (IsGood s.draws)) (calm_fine s e sound calm)) apart (fated_quiet ms d s.asked s.draws refl fated)

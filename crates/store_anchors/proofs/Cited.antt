@@ -23,11 +23,12 @@ use Rattle.object_origins.specs.Shown.{Shows}
 use Rattle.store_model.specs.Run.{Moving}
 use Rattle.store_laws.proofs.Every.{EveryWorld}
 use Rattle.cluster_machine.specs.Hashes.{NoClash}
+use Rattle.store_laws.proofs.Deeds.{Deed, hashes}
 
--- worlds are sound, no two of these strings have one digest, and where they are all that is hashed, reads give what was kept; and they give only what was stored; block phases give their blocks; rows show what was stored; a version that is gone was overwritten or aborted; and version rows merge so
-pub record Cited (H : List ℕ → Type 0) : Type 0 where
+-- worlds are sound, no two strings that these deeds hash have one digest, and where they are all that is done, reads give what was kept; and they give only what was stored; block phases give their blocks; rows show what was stored; a version that is gone was overwritten or aborted; and version rows merge so
+pub record Cited (H : Deed → Type 0) : Type 0 where
   pub every : EveryWorld H
-  pub clear : NoClash H
+  pub clear : NoClash (λ x. H (hashes x))
   pub gives : (digest : List ℕ → List ℕ) (trio : Layout) (roles : List Role → List Role) (moves : List Moving) (m : Moving) → IsRun any_join words layouts trio roles 256 empty moves → All (λ (m : Moving). StepBringsBlocks digest words m.step) moves →
       (e : Ended AnyRow) → Contains (does any_join words layouts trio roles (run any_join words layouts trio roles empty moves) m).ends e → GaveItsBlock digest (run any_join words layouts trio roles empty moves) e
   pub shows : (stored : List AnyRow) (row : AnyRow) → All (λ r. deletes_nothing r ≡ true) stored → ComesFrom any_join words stored row → Shows stored row

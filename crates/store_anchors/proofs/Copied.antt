@@ -35,6 +35,7 @@ use Rattle.store_anchors.proofs.Laid.{IsLaidIn}
 use Rattle.store_anchors.proofs.Whole.{rightly}
 use Rattle.store_anchors.proofs.Taking.{AreTaken, IsFollowedIn, IsOfSource, Knows, none_taken, followed_joined, taken_of}
 use Rattle.store_laws.proofs.Hashing.{ActsIn, acts_in_parts}
+use Rattle.store_laws.proofs.Deeds.{Deed, IsSafe}
 
 -- ---- acts before others
 
@@ -45,7 +46,7 @@ moves_after s (a ∷ before) after =
 
 -- ---- a copy begins
 
-module _ {H : List ℕ → Type 0} where
+module _ {H : Deed → Type 0} where
   -- no request has the number of the next one, so it drew nothing
   next_is_new : (s : State) → IsSound H s → (d : Draw) → Contains s.draws d → ¬ (d.request ≡ suc (length s.world.requests))
   next_is_new s sound d c e =
@@ -64,7 +65,7 @@ module _ {H : List ℕ → Type 0} where
       absurd (omega arith)
 
   opened_follows : (ms : List Moving) (s : State) (n : ℕ) (copy : Copying) (name : Name) → IsSound H s → ((id : ℕ) → Contains s.history (Ended copy.request (Superseded id)) → ⊥) → s.history ≡ copy.history → suc (length s.world.requests) ≡ copy.request →
-      IsFollowedIn ms (opened s n (order_of copy name)).state copy
+      IsFollowedIn (IsSafe H) ms (opened s n (order_of copy name)).state copy
   opened_follows ms s n copy name sound never past is =
       let o : Order = order_of copy name in
       let q : ℕ = suc (length s.world.requests) in
@@ -82,8 +83,8 @@ module _ {H : List ℕ → Type 0} where
             let one_is : a ≡ b = cc in
             let flows : Some flow ≡ Some f = ap (λ (x : Asked). x.flow) one_is ∙ flow_is in
             let same : flow ≡ f = cc in
-            subst (λ (g : Flow). Knows (blocks_of ms) s.draws copy g.stage) same (refl, refl);
-        taken = none_taken (blocks_of ms) copy s.draws (λ d c own. next_is_new s sound d c (own ∙ sym is));
+            subst (λ (g : Flow). Knows (IsSafe H) (blocks_of ms) s.draws copy g.stage) same (refl, refl);
+        taken = none_taken (IsSafe H) (blocks_of ms) copy s.draws (λ d c own. next_is_new s sound d c (own ∙ sym is));
         ended = λ id c. elim (Contains-append_cases s.history (began_with q n o ∷ []) (Ended copy.request (Superseded id)) c) [
           | inl was ↦ absurd (never id was)
           | inr new ↦ absurd (began_is_no_end q n o copy.request id (only (began_with q n o) (Ended copy.request (Superseded id)) new))
@@ -96,11 +97,11 @@ number_is p q e = cc
 no_number : (q : ℕ) → Empty ≡ One q → ⊥
 no_number q e = cc
 
-module _ {H : List ℕ → Type 0} where
-  begins_follows : (ms : List Moving) (s : State) (n : ℕ) (copy : Copying) (name : Name) → IsSound H s → IsLaidIn H ms s → s.history ≡ copy.history → (let o = begins s n (order_of copy name) in o.words ≡ One copy.request → IsFollowedIn (ms ++ o.moves) o.state copy)
+module _ {H : Deed → Type 0} where
+  begins_follows : (ms : List Moving) (s : State) (n : ℕ) (copy : Copying) (name : Name) → IsSound H s → IsLaidIn H ms s → s.history ≡ copy.history → (let o = begins s n (order_of copy name) in o.words ≡ One copy.request → IsFollowedIn (IsSafe H) (ms ++ o.moves) o.state copy)
   begins_follows ms s n copy name sound laid past =
       let o : Order = order_of copy name in
-      let Follows : Outcome → Type 0 = λ (x : Outcome). x.words ≡ One copy.request → IsFollowedIn (ms ++ x.moves) x.state copy in
+      let Follows : Outcome → Type 0 = λ (x : Outcome). x.words ≡ One copy.request → IsFollowedIn (IsSafe H) (ms ++ x.moves) x.state copy in
       elim (is_member_at layouts s.world n) as (λ b. Follows (if b then (if are_buckets s.buckets (buckets_of o) then opened s n o else refusal s NoSuchBucket) else refusal s NotMember)) [
         | true ↦ elim (are_buckets s.buckets (buckets_of o)) as (λ b. Follows (if b then opened s n o else refusal s NoSuchBucket)) [
           | true ↦ λ is.
@@ -114,10 +115,10 @@ module _ {H : List ℕ → Type 0} where
 
 -- ---- the law
 
-module _ {H : List ℕ → Type 0} where
+module _ {H : Deed → Type 0} where
   module _ (cited : Cited H) where
     asked_copies : (copy : Copying) (before : List Act) (node : ℕ) (name : Name) (after : List Act) → (after_acts start before).history ≡ copy.history → (let acts = before ++ asks node (order_of copy name) ∷ after in AreLawfulActs start acts → ActsIn H start acts →
-        (acted (after_acts start before) (asks node (order_of copy name))).words ≡ One copy.request → IsFollowedIn (moves_in start acts) (after_acts start acts) copy)
+        (acted (after_acts start before) (asks node (order_of copy name))).words ≡ One copy.request → IsFollowedIn (IsSafe H) (moves_in start acts) (after_acts start acts) copy)
     asked_copies copy before node name after past lawful fit begins =
         let a : Act = asks node (order_of copy name) in
         let s : State = after_acts start before in
@@ -128,23 +129,23 @@ module _ {H : List ℕ → Type 0} where
         let first : IsHeld H ms s = (acts_held cited [] start before laws.0 fits.0 (start_held cited)).0 in
         let held_then : IsHeld H (ms ++ (o.moves ++ [])) o.state = (acts_held cited ms s (a ∷ []) (laws.1.0, tt) (fits.1.0, tt) first).0 in
         let now : IsHeld H (ms ++ o.moves) o.state = subst (λ (k : List Moving). IsHeld H (ms ++ k) o.state) (append-nil o.moves) held_then in
-        let begun : IsFollowedIn (ms ++ o.moves) o.state copy = begins_follows ms s node copy name first.sound first.laid past begins in
+        let begun : IsFollowedIn (IsSafe H) (ms ++ o.moves) o.state copy = begins_follows ms s node copy name first.sound first.laid past begins in
         let last : State = after_acts o.state after in
-        let all : IsFollowedIn (ms ++ (o.moves ++ moves_in o.state after)) last copy =
+        let all : IsFollowedIn (IsSafe H) (ms ++ (o.moves ++ moves_in o.state after)) last copy =
         followed_joined ms o.moves (moves_in o.state after) last copy ((acts_held cited (ms ++ o.moves) o.state after laws.1.1 fits.1.1 now).2 copy begun) in
-        let ends : IsFollowedIn (moves_in start (before ++ a ∷ after)) last copy = subst (λ (k : List Moving). IsFollowedIn k last copy) (sym (moves_after start before (a ∷ after))) all in
-        subst (λ (x : State). IsFollowedIn (moves_in start (before ++ a ∷ after)) x copy) (sym (acts_after start before (a ∷ after))) ends
+        let ends : IsFollowedIn (IsSafe H) (moves_in start (before ++ a ∷ after)) last copy = subst (λ (k : List Moving). IsFollowedIn (IsSafe H) k last copy) (sym (moves_after start before (a ∷ after))) all in
+        subst (λ (x : State). IsFollowedIn (IsSafe H) (moves_in start (before ++ a ∷ after)) x copy) (sym (acts_after start before (a ∷ after))) ends
 
-    followed : (acts : List Act) → AreLawfulActs start acts → ActsIn H start acts → (copy : Copying) → IsAskedIn acts copy → IsFollowedIn (moves_in start acts) (after_acts start acts) copy
+    followed : (acts : List Act) → AreLawfulActs start acts → ActsIn H start acts → (copy : Copying) → IsAskedIn acts copy → IsFollowedIn (IsSafe H) (moves_in start acts) (after_acts start acts) copy
     followed acts lawful fit copy asked =
         let moves : List Act = asked.before ++ asks asked.node (order_of copy asked.name) ∷ asked.after in
-        let there : IsFollowedIn (moves_in start moves) (after_acts start moves) copy =
+        let there : IsFollowedIn (IsSafe H) (moves_in start moves) (after_acts start moves) copy =
         asked_copies copy asked.before asked.node asked.name asked.after asked.history_is (subst (AreLawfulActs start) asked.acts_are lawful) (subst (ActsIn H start) asked.acts_are fit) asked.begins in
-        subst (λ (as' : List Act). IsFollowedIn (moves_in start as') (after_acts start as') copy) (sym asked.acts_are) there
+        subst (λ (as' : List Act). IsFollowedIn (IsSafe H) (moves_in start as') (after_acts start as') copy) (sym asked.acts_are) there
 
-    pub copies : (acts : List Act) → AreLawfulActs start acts → ActsIn H start acts → CopiesSources acts
-    copies acts lawful fit copy asked newer d older cut own =
-        taken_of (blocks_of (moves_in start acts)) copy newer d older (subst (AreTaken (blocks_of (moves_in start acts)) copy) cut (followed acts lawful fit copy asked).taken) own
+    pub copies : IsSafe H → (acts : List Act) → AreLawfulActs start acts → ActsIn H start acts → CopiesSources acts
+    copies safe acts lawful fit copy asked newer d older cut own =
+        taken_of safe (blocks_of (moves_in start acts)) copy newer d older (subst (AreTaken (IsSafe H) (blocks_of (moves_in start acts)) copy) cut (followed acts lawful fit copy asked).taken) own
 
     -- the version with which it ended was drawn once, and so for its source
     pub copies_end : (acts : List Act) → AreLawfulActs start acts → ActsIn H start acts → CopiesEndRightly acts

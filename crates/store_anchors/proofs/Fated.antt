@@ -24,6 +24,7 @@ use Rattle.store_laws.proofs.Sound.{IsStage, IsSound}
 use Rattle.store_anchors.proofs.Kept.{Past, IsRowOf, announces, gives_up, completes, names, refers}
 use Rattle.store_anchors.proofs.Laid.{stored_more}
 use Rattle.store_anchors.proofs.Told.{NeverBoth}
+use Rattle.store_laws.proofs.Deeds.{Deed}
 
 -- a row that names blocks of the version with this identifier
 abbrev pub OfVersion : ℕ → AnyRow → Type 0
@@ -98,7 +99,7 @@ module _ (stored newer : List AnyRow) (block : ℕ) where
   come_with (Listing bucket prefix rs) h others = tt
 
 -- the version of a stream has the number of its request
-pub stream_id : {H : List ℕ → Type 0} (s : State) (p : ℕ) (a : Asked) (stage : Stage) (v : Version) → IsSound H s → IsStage H s.draws s.history p a stage → IsOfStream stage v → v.id ≡ p
+pub stream_id : {H : Deed → Type 0} (s : State) (p : ℕ) (a : Asked) (stage : Stage) (v : Version) → IsSound H s → IsStage H s.draws s.history p a stage → IsOfStream stage v → v.id ≡ p
 stream_id s p a (Receiving name u coming received) v sound is e = ap (λ (x : Version). x.id) (sym e) ∙ (sound.drawn _ is.1.drawn).id_is
 stream_id s p a (Needing name u coming received) v sound is e = ap (λ (x : Version). x.id) (sym e) ∙ (sound.drawn _ is.1.drawn).id_is
 stream_id s p a (Drawing name w) v sound is e = absurd e
@@ -110,7 +111,7 @@ stream_id s p a (Opening u meta aim) v sound is e = absurd e
 stream_id s p a (Gathering u meta aim left body) v sound is e = absurd e
 stream_id s p a (Listing bucket prefix rs) v sound is e = absurd e
 
-module _ {H : List ℕ → Type 0} where
+module _ {H : Deed → Type 0} where
   module _ (s : State) (sound : IsSound H s) (stored : List AnyRow) (fated : IsFated stored s.asked s.draws) (q : ℕ) (a : Asked) (at : numbered s.asked q ≡ Some a) where
     pub old_id : (d : Draw) → Contains s.draws d → d.version.id ≡ d.request
     old_id d c = (sound.drawn d c).id_is

@@ -43,6 +43,7 @@ use Rattle.store_anchors.proofs.Kept.{Past, IsRowOf}
 use Rattle.store_anchors.proofs.Laid.{HasUploaded, past, IsLaidIn, stored_more}
 use Rattle.store_anchors.proofs.Told.{row_version, row_given_up, complete_given_up, aborted_drawn, one_known}
 use Rattle.store_anchors.proofs.Fated.{OfVersion, ArePieces, HaveCome, IsGivenUp, IsFated, IsFatedIn, named_drawn, pieces_with, fated_set}
+use Rattle.store_laws.proofs.Deeds.{Deed}
 
 -- after these steps and those of an outcome
 abbrev pub OutcomeFated : List Moving → Outcome → Type 0
@@ -96,7 +97,7 @@ module _ (q block : ℕ) where
   lists_quiet bucket prefix rs None = tt
   lists_quiet bucket prefix rs (Some after) = (refl, λ stored size. tt)
 
-module _ {H : List ℕ → Type 0} where
+module _ {H : Deed → Type 0} where
   module _ (ms : List Moving) (s : State) (sound : IsSound H s) (once : IsOnceIn s) (laid : IsLaidIn H ms s) (fated : IsFatedIn ms s) (q : ℕ) (a : Asked) (at : numbered s.asked q ≡ Some a) where
     abbrev stored : List AnyRow
     stored = stored_in ms
@@ -313,7 +314,7 @@ module _ {H : List ℕ → Type 0} where
 
 -- ---- a phase ended
 
-module _ {H : List ℕ → Type 0} where
+module _ {H : Deed → Type 0} where
   module _ (ms : List Moving) (s : State) (sound : IsSound H s) (once : IsOnceIn s) (laid : IsLaidIn H ms s) (fated : IsFatedIn ms s) (q : ℕ) (a : Asked) (at : numbered s.asked q ≡ Some a) (block : ℕ) where
     abbrev pub StepIs : List Draw → FlowStep → Type 0
     StepIs ds st = StepFated ms s sound once laid fated q a at ds st

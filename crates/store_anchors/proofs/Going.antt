@@ -55,6 +55,7 @@ use Rattle.store_anchors.proofs.Kept.{IsFound, Fetches, IsReplaced, replaced_lat
 use Rattle.store_anchors.proofs.Laid.{Asks, Gets, laid_told, digest, HasUploaded, HasReceived, AreStored, Holds, Stores, Awaits, AreRows, past, past_after, after_grows, drawn_grows, blocks_new, IsLaid, IsLaidIn, laid_waiting, Scans}
 use Rattle.store_anchors.proofs.Steps.{begin_laid, calm_laid}
 use Rattle.store_laws.proofs.Hashing.{FitIn}
+use Rattle.store_laws.proofs.Deeds.{Deed}
 
 -- ---- rows come with their blocks
 
@@ -120,7 +121,7 @@ two_rows p r t h k x c = elim (cons_cases r (t ∷ []) x c) [
 
 -- ---- a request goes on
 
-module _ {H : List ℕ → Type 0} where
+module _ {H : Deed → Type 0} where
   module _ (cited : Cited H) (moves : List Moving) (s : State) (q : ℕ) (a : Asked) (at : numbered s.asked q ≡ Some a) (rests : Rests s q) (block : ℕ) (laid : IsLaidIn H moves s) where
     -- what there is with more draws, and after the phase has begun too
     abbrev pub with_draws : List Draw → Past

@@ -1,5 +1,5 @@
 -- What the client of a streamed upload does keeps what was stored with its blocks, and what stays so of versions.
-use Rattle.std.specs.Prelude.{◌≡◌, ◌<◌, ◌≤◌, ◌^◌, ◌*◌, ◌+◌, ◌-◌, ℕ, Bool, true, false, Option, Some, None, if◌then◌else◌, List, [], ◌∷◌, ◌++◌, length, refl}
+use Rattle.std.specs.Prelude.{◌≡◌, ◌<◌, ◌≤◌, ◌^◌, ◌*◌, ℕ, Bool, true, false, Option, Some, None, if◌then◌else◌, List, [], ◌∷◌, ◌++◌, length, refl}
 use Rattle.std.proofs.Common.{ap, sym, subst, ◌∙◌, inl, inr, arith}
 use Rattle.std.specs.List.{Contains}
 use Rattle.std.specs.Option.{option_and_then}
@@ -29,7 +29,7 @@ use Rattle.store_laws.proofs.Hashing.{FitIn}
 use Rattle.store_laws.proofs.Hearing.{needing_rests}
 use Rattle.store_laws.proofs.Once.{IsOnceIn}
 use Rattle.store_laws.proofs.Sound.{IsSound}
-use Rattle.store_anchors.specs.Copied.{Copying, IsTaken}
+use Rattle.store_anchors.specs.Copied.{Copying}
 use Rattle.store_anchors.specs.Stored.{blocks_of}
 use Rattle.store_anchors.proofs.Acting.{OutcomeLaid, goes, draws_on}
 use Rattle.store_anchors.proofs.Cited.{Cited}
@@ -40,14 +40,15 @@ use Rattle.store_anchors.proofs.Going.{fed_laid, aborting_laid, completes_laid}
 use Rattle.store_anchors.proofs.Kept.{Past, HasAll, IsLong}
 use Rattle.store_anchors.proofs.Laid.{HasReceived, AreStored, past, IsLaidIn}
 use Rattle.store_anchors.proofs.Lines.{tells_none}
-use Rattle.store_anchors.proofs.Taking.{AreTaken, followed_first}
+use Rattle.store_anchors.proofs.Taking.{AreTaken, IsTakenIf, followed_first}
 use Rattle.store_anchors.proofs.Told.{complete_given_up}
+use Rattle.store_laws.proofs.Deeds.{Deed}
 
 -- a draw of a copy took what was written before it
-taken_there : (blocks : List (List ℕ)) (copy : Copying) (draws : List Draw) (d : Draw) → Contains draws d → AreTaken blocks copy draws → d.request ≡ copy.request → (older : List Draw) × IsTaken blocks older copy d.wish
+taken_there : {C : Type 0} (blocks : List (List ℕ)) (copy : Copying) (draws : List Draw) (d : Draw) → Contains draws d → AreTaken C blocks copy draws → d.request ≡ copy.request → (older : List Draw) × IsTakenIf C blocks older copy d.wish
 taken_there blocks copy [] d c taken own = absurd (none_in d c)
-taken_there blocks copy (x ∷ older) d c taken own = elim (cons_cases x older d c) [
-  | inl here ↦ subst (λ (y : Draw). (before : List Draw) × IsTaken blocks before copy y.wish) here (older, taken.0 (ap (λ (y : Draw). y.request) here ∙ own))
+taken_there {C = C} blocks copy (x ∷ older) d c taken own = elim (cons_cases x older d c) [
+  | inl here ↦ subst (λ (y : Draw). (before : List Draw) × IsTakenIf C blocks before copy y.wish) here (older, taken.0 (ap (λ (y : Draw). y.request) here ∙ own))
   | inr more ↦ taken_there blocks copy older d more taken.1 own
 ]
 
@@ -56,7 +57,7 @@ needed_so : (is_open : Bool) (o : Option ℕ) (n : ℕ) → (if is_open then o e
 needed_so true o n e = e
 needed_so false o n e = cc
 
-module _ {H : List ℕ → Type 0} where
+module _ {H : Deed → Type 0} where
   module _ (cited : Cited H) (ms : List Moving) (s : State) (q : ℕ) (a : Asked) (at : numbered s.asked q ≡ Some a) (sound : IsSound H s) (once : IsOnceIn s) (fated : IsFatedIn ms s) (laid : IsLaidIn H ms s) where
     module _ (block : ℕ) (name : Name) (v : Version) (coming : Coming) (received : List ℕ) (flow_is : a.flow ≡ Some (flow_of q block (Needing name v coming received))) where
       abbrev f : Flow

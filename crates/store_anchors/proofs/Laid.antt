@@ -47,7 +47,8 @@ use Rattle.store_laws.proofs.Grown.{Rests, asked_set}
 use Rattle.machine_origins.proofs.Places.{numbered_set_cases}
 use Rattle.store_anchors.specs.Stored.{blocks_by, blocks_of}
 use Rattle.store_anchors.proofs.Kept.{AsksNames, Fetches, IsReplaced, names_later, fetches_later, replaced_later, replaced_asked, IsPart, Past, Grows, HasPiece, IsRowOf, piece_later, row_later}
-use Rattle.store_laws.proofs.Hashing.{HashesIn}
+use Rattle.store_laws.proofs.Hashing.{DoesIn}
+use Rattle.store_laws.proofs.Deeds.{Deed}
 
 -- blocks are named by their digests
 abbrev pub digest : List ℕ → List ℕ
@@ -136,7 +137,7 @@ abbrev pub past : List Moving → World → List Draw → Past
 past moves w draws = record { draws = draws; kept = w.kept; stored = stored_in moves; blocks = blocks_of moves }
 
 -- after these steps: the world is one that they lead to, but that a layout was installed and messages were forgotten; each row that they began to store is a write's, and came with its block; so is each that is kept; requests wait for their phases; and where one ended superseded, a version above was stored complete
-pub record IsLaid (H : List ℕ → Type 0) (moves : List Moving) (w : World) (asked : List Asked) (draws : List Draw) (history : List Record) : Type 0 where
+pub record IsLaid (H : Deed → Type 0) (moves : List Moving) (w : World) (asked : List Asked) (draws : List Draw) (history : List Record) : Type 0 where
   pub room : length w.requests < 2 ^ 64
   pub reached : IsReachedBy H (IsStepOf moves) w
   pub stored : All (λ (m : Moving). All (IsRowOf (past moves w draws)) (stored_by m.step)) moves
@@ -145,7 +146,7 @@ pub record IsLaid (H : List ℕ → Type 0) (moves : List Moving) (w : World) (a
   pub fits : (n : ℕ) (c : Call AnyRow) → Has (w.nodes n).calls c → IsFit asked (past moves w draws) c.request c.present
   pub superseded : (q id : ℕ) → Contains history (Ended q (Superseded id)) → IsReplaced (past moves w draws) asked q id
 
-abbrev pub IsLaidIn : (List ℕ → Type 0) → List Moving → State → Type 0
+abbrev pub IsLaidIn : (Deed → Type 0) → List Moving → State → Type 0
 IsLaidIn H moves s = IsLaid H moves s.world s.asked s.draws s.history
 
 -- ---- there is more
@@ -296,8 +297,8 @@ pub record IsApt (moves : List Moving) (s : State) (m : Moving) : Type 0 where
   pub keeps : (r : AnyRow) → Contains (effect s m).keeps r → IsRowOf (past moves s.world s.draws) r
   pub fits : (n : ℕ) (c : Call AnyRow) → Has (changed (effect s m).nodes s.world.nodes n).calls c → IsFit s.asked (past_after moves s m) c.request c.present
 
-module _ {H : List ℕ → Type 0} where
-  pub laid_step : (moves : List Moving) (s : State) (m : Moving) → Fits words (next any_join words s.world m) → HashesIn H s.world m → IsLawfulRun any_join words s.world (m ∷ []) → StepBringsBlocks digest words m.step → All (IsRowOf (past moves s.world s.draws)) (stored_by m.step) →
+module _ {H : Deed → Type 0} where
+  pub laid_step : (moves : List Moving) (s : State) (m : Moving) → Fits words (next any_join words s.world m) → DoesIn H s.world m → IsLawfulRun any_join words s.world (m ∷ []) → StepBringsBlocks digest words m.step → All (IsRowOf (past moves s.world s.draws)) (stored_by m.step) →
       IsApt moves s m → IsLaidIn H moves s → IsLaid H (moves ++ m ∷ []) (next any_join words s.world m) s.asked s.draws s.history
   laid_step moves s m room hashes lawful brings stores apt laid =
       let old : Past = past moves s.world s.draws in
@@ -322,7 +323,7 @@ module _ {H : List ℕ → Type 0} where
 pub drawn_grows : (moves : List Moving) (s : State) (newer : List Draw) → Grows (past moves s.world s.draws) (past moves s.world (newer ++ s.draws))
 drawn_grows moves s newer = record { draws = λ d c. Contains-append_right newer s.draws d c; kept = λ r c. c; stored = λ r c. c; blocks = λ b c. c }
 
-module _ {H : List ℕ → Type 0} where
+module _ {H : Deed → Type 0} where
   pub laid_waiting : (moves : List Moving) (s : State) (q : ℕ) (a : Asked) (flow : Option Flow) (newer : List Draw) → numbered s.asked q ≡ Some a → Rests s q →
       ((f : Flow) → flow ≡ Some f → Holds (past moves s.world (newer ++ s.draws)) q f.block f.stage) → IsLaidIn H moves s → IsLaid H moves s.world (slice_set s.asked (q - 1) (record a { flow = flow })) (newer ++ s.draws) s.history
   laid_waiting moves s q a flow newer at rests hold laid =
@@ -353,7 +354,7 @@ module _ {H : List ℕ → Type 0} where
 
 -- ---- the history grows
 
-module _ {H : List ℕ → Type 0} where
+module _ {H : Deed → Type 0} where
   pub laid_told : (moves : List Moving) (w : World) (asked : List Asked) (draws : List Draw) (history rest : List Record) → ((q id : ℕ) → Contains rest (Ended q (Superseded id)) → IsReplaced (past moves w draws) asked q id) →
       IsLaid H moves w asked draws history → IsLaid H moves w asked draws (history ++ rest)
   laid_told moves w asked draws history rest ends laid = record {
@@ -371,7 +372,7 @@ module _ {H : List ℕ → Type 0} where
 
 -- ---- the world changes, and no step is made
 
-module _ {H : List ℕ → Type 0} where
+module _ {H : Deed → Type 0} where
   -- delivered messages are forgotten
   pub laid_forgetting : (moves : List Moving) (s : State) → IsLaidIn H moves s → IsLaidIn H moves (record s { world = forget_delivered s.world })
   laid_forgetting moves s laid = record {

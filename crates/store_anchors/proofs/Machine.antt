@@ -1,5 +1,5 @@
 -- A world that acts lead to, with no message forgotten, is the end of a run of the machine, whose first layout is the one that was installed, if one was.
-use Rattle.std.specs.Prelude.{◌≡◌, ◌≤◌, ◌+◌, List, [], ◌∷◌, refl, ℕ}
+use Rattle.std.specs.Prelude.{◌≡◌, ◌≤◌, ◌+◌, List, [], ◌∷◌, refl}
 use Rattle.std.proofs.Common.{ap, sym, subst, inl, inr, arith}
 use Rattle.std.specs.List.{All}
 use Rattle.std.proofs.lemmas.List.Elements.{All-append, All-cons}
@@ -24,6 +24,7 @@ use Rattle.world_reads.proofs.Lawful.{lawful_is_run, same_run}
 use Rattle.store_model.specs.Run.{World, Moving}
 use Rattle.store_laws.proofs.Every.{EveryWorld}
 use Rattle.store_laws.proofs.Sound.{IsReachedBy, IsInstalled}
+use Rattle.store_laws.proofs.Deeds.{Deed, hashes, hashed_done}
 
 -- the run of the machine: each of its steps is so, and each step does in this world what it does after them
 pub record IsEndOf (IsSo : Step AnyRow → Type 0) (v : World) : Type 0 where
@@ -38,8 +39,8 @@ pub record IsEndOf (IsSo : Step AnyRow → Type 0) (v : World) : Type 0 where
   pub are : All (λ (m : Moving). IsSo m.step) moves
   pub clear : NoClash (RunHashes words any_join layouts first roles empty moves)
 
-module _ {H : List ℕ → Type 0} where
-  module _ (every : EveryWorld H) (no_clash : NoClash H) {IsSo : Step AnyRow → Type 0} (w : World) (r : IsReachedBy H IsSo w) where
+module _ {H : Deed → Type 0} where
+  module _ (every : EveryWorld H) (no_clash : NoClash (λ x. H (hashes x))) {IsSo : Step AnyRow → Type 0} (w : World) (r : IsReachedBy H IsSo w) where
     -- nothing was installed
     from_empty : r.begin ≡ empty → IsEndOf IsSo (run any_join words r.begin r.moves)
     from_empty at_empty =
@@ -54,7 +55,7 @@ module _ {H : List ℕ → Type 0} where
           leads = same_run any_join words empty r.moves;
           same = λ m. refl;
           are = r.are;
-          clear = clear_within _ H (λ x h. r.hashed x (subst (λ (u : World). StepsHash u r.moves x) (sym at_empty) h)) no_clash;
+          clear = clear_within _ (λ x. H (hashes x)) (λ x h. r.done (hashes x) tt (hashed_done r.begin r.moves x (subst (λ (u : World). StepsHash u r.moves x) (sym at_empty) h))) no_clash;
         })
 
     -- a layout was installed, which is a step of the machine that is so too
@@ -76,9 +77,9 @@ module _ {H : List ℕ → Type 0} where
           leads = whole_same any_join words was.first r.before r.moves sound was.lawful;
           same = λ m. step_same any_join words was.first v m.step m.choice (inl (omega (arith, more, one)));
           are = All-append (λ (m : Moving). IsSo m.step) r.before (first_step ∷ r.moves) r.before_are (All-cons (λ (m : Moving). IsSo m.step) first_step r.moves is r.are);
-          clear = clear_within _ H (λ x h. elim (whole_hashes any_join words was.first r.before r.moves sound was.lawful x h) [
-            | inl early ↦ r.hashed_before x early
-            | inr late ↦ r.hashed x (subst (λ (u : World). StepsHash u r.moves x) (sym was.is) late)
+          clear = clear_within _ (λ x. H (hashes x)) (λ x h. elim (whole_hashes any_join words was.first r.before r.moves sound was.lawful x h) [
+            | inl early ↦ r.done_before (hashes x) tt (hashed_done empty r.before x early)
+            | inr late ↦ r.done (hashes x) tt (hashed_done r.begin r.moves x (subst (λ (u : World). StepsHash u r.moves x) (sym was.is) late))
           ]) no_clash;
         })
 

@@ -34,7 +34,7 @@ use Rattle.table_model.specs.Rows.{row_at, is_at}
 use Rattle.object_schema.specs.Schema.{words}
 use Rattle.object_schema.specs.Laws.{eight_same, version_ids, apart}
 use Rattle.object_schema.specs.Triggers.{triggered, deleted_version, deleted_reference, given_up, released}
-use Rattle.cluster_machine.specs.Kept.{IsOver, KeptReads}
+use Rattle.cluster_machine.specs.Kept.{IsOver}
 use Rattle.cluster_machine.specs.Node.{Question, read}
 use Rattle.machine_origins.specs.Origins.{ComesFrom, stored_in}
 use Rattle.machine_origins.proofs.ByOrigin.{IsInherited, has_by_origin}
@@ -43,7 +43,6 @@ use Rattle.object_origins.specs.Shown.{ShowsVersion}
 use Rattle.table_model.proofs.RowLaws.{place_total}
 use Rattle.row_codec.specs.Range.{is_eight}
 use Rattle.store_laws.proofs.Rows.{complete_row}
-use Rattle.flow_model.specs.declared.flow.Wish.TheVariants as wish
 use Rattle.flow_model.specs.Blocks.{has_piece}
 use Rattle.flow_model.specs.Rows.{version_row}
 use Rattle.flow_model.specs.Says.{Named, whole, deleted, named_by, of_entries}
@@ -52,7 +51,8 @@ use Rattle.flow_laws.proofs.Merged.{are_named}
 use Rattle.store_model.specs.Run.{Moving, State, Draw}
 use Rattle.store_laws.proofs.Objects.{Below as IsBelow, members_below}
 use Rattle.store_laws.proofs.Sound.{IsSound}
-use Rattle.store_laws.proofs.Reached.{reached_kept}
+use Rattle.store_laws.proofs.Reached.{reached_joined, reached_objects}
+use Rattle.anchor_laws.proofs.References.{none_at}
 use Rattle.store_anchors.proofs.Cited.{Cited}
 use Rattle.store_laws.proofs.Rows.{IsKnown}
 use Rattle.store_anchors.proofs.Fated.{OfVersion, IsFatedIn}
@@ -60,6 +60,7 @@ use Rattle.store_anchors.proofs.Kept.{Past, IsRowOf, announces, gives_up, comple
 use Rattle.store_anchors.proofs.Laid.{past, IsLaidIn, all_each}
 use Rattle.store_anchors.proofs.Reading.{piece_there, each_stored, gave, shown, small}
 use Rattle.store_anchors.proofs.Told.{was_drawn, AreApart, drawn_as, drawn_there, are_drawn, none_aborted, above_of}
+use Rattle.store_laws.proofs.Deeds.{Deed}
 
 -- ---- the rows of blocks are below what they merge to
 
@@ -98,7 +99,7 @@ module _ {o : ord.Ghosts Part} {p : partial_eq.Ghosts Part} {q : partial_ord.Gho
 deleted_names : (r : VersionRow) (size : ℕ) → is_deleted r ≡ true → named_by (Some (rows.Version r)) size ≡ deleted
 deleted_names r size e = by_blocks r.blocks size e
 
-module _ {H : List ℕ → Type 0} where
+module _ {H : Deed → Type 0} where
   module _ (cited : Cited H) (moves : List Moving) (s : State) (sound : IsSound H s) (apart_draws : AreApart s.draws) (fated : IsFatedIn moves s) (laid : IsLaidIn H moves s) (v : Version) (meta : Meta) (found : IsFound (past moves s.world s.draws) v meta) where
     abbrev p : Past
     p = past moves s.world s.draws
@@ -224,10 +225,14 @@ module _ {H : List ℕ → Type 0} where
 
       over : (value : Option AnyRow) → Contains s.world.reads (read question value) → IsOver any_join words value (row_at any_join words question.kept 2 (eight id))
       over value c =
-          let keeps : KeptReads any_join words s.world = reached_kept cited.every s.world laid.reached cited.clear in
+          let keeps = reached_joined cited.every s.world laid.reached cited.clear (read question value) c in
+          let none : row_at any_join words s.world.collected question.table question.key ≡ None =
+          none_at question.table question.key s.world.collected (λ one. apart 1 2 (lit< tt) (sym one ∙ table)) (reached_objects cited.every s.world laid.reached) in
+          let given : IsOver any_join words value (row_at any_join words question.kept question.table question.key) =
+          subst (λ (o : Option AnyRow). IsOver any_join words (option_join any_join o value) (row_at any_join words question.kept question.table question.key)) none keeps in
           let key_is : question.key ≡ eight id = key ∙ ap (λ (x : Version). eight x.id) (sym found.version_is) in
           subst (λ (i : List ℕ). IsOver any_join words value (row_at any_join words question.kept 2 i)) key_is
-          (subst (λ (t : ℕ). IsOver any_join words value (row_at any_join words question.kept t question.key)) table (keeps (read question value) c))
+          (subst (λ (t : ℕ). IsOver any_join words value (row_at any_join words question.kept t question.key)) table given)
 
       rows_there : (i : ℕ) → i ≤ found.last → AtMost (option_join any_join) (Some (version_row id found.draw.block found.content.body i)) (row_at any_join words question.kept 2 (eight id))
       rows_there i le =

@@ -1,13 +1,16 @@
 -- What a request has read of an object whose row it asked for: a version that a write drew for it, and that is not below what was acknowledged before the request began.
-use Rattle.std.specs.Prelude.{◌≡◌, ℕ, Option, Some, List, ◌∷◌, ◌++◌}
-use Rattle.std.proofs.Common.{ap, sym, subst, ◌∙◌}
+use Rattle.std.specs.Prelude.{◌≡◌, ◌⊎◌, ℕ, Option, Some, List, ◌∷◌, ◌++◌}
+use Rattle.std.proofs.Common.{ap, sym, subst, ◌∙◌, inl, inr}
 use Rattle.std.specs.List.{Contains}
+use Rattle.crdt_core.specs.Order.{option_join}
 use Rattle.crdt_rows.specs.declared.version.Version.{Version}
 use Rattle.crdt_rows.specs.declared.object_row.ObjectRow.{ObjectRow}
 use Rattle.crdt_rows.specs.declared.any_row.AnyRow.{AnyRow}
 use Rattle.crdt_rows.specs.declared.any_row.AnyRow.TheVariants as rows
 use Rattle.crdt_rows.specs.AnyRow.{any_join}
 use Rattle.object_schema.specs.Schema.{words}
+use Rattle.object_collects.specs.Seen.{object_versions}
+use Rattle.collect_reads.specs.Clean.{GaveNotBelow}
 use Rattle.table_model.specs.Rows.{row_at}
 use Rattle.cluster_machine.specs.Kept.{IsOver}
 use Rattle.cluster_machine.specs.Node.{read}
@@ -22,18 +25,21 @@ use Rattle.flow_model.specs.declared.flow.Flow.{Flow}
 use Rattle.flow_model.specs.Rows.{row_key}
 use Rattle.flow_model.specs.Says.{Said, none, said_by, said_of}
 use Rattle.store_model.specs.Run.{Moving, State, Asked}
-use Rattle.store_laws.proofs.Covering.{IsSaid, CoversIn, CoversRow, covers}
+use Rattle.store_collects.proofs.Clean.{GaveClean}
+use Rattle.store_laws.proofs.Clean.{reached_clean, reached_gone}
+use Rattle.store_laws.proofs.Covering.{IsSaid, IsHere}
+use Rattle.store_laws.proofs.Gone.{IsPassed, IsCovering, value_covers}
 use Rattle.store_laws.proofs.Ends.{HasRead}
 use Rattle.store_laws.proofs.Going.{flow_of}
-use Rattle.store_laws.proofs.Reached.{reached_kept}
 use Rattle.store_laws.proofs.Rows.{IsFound, IsValue, found}
 use Rattle.store_laws.proofs.Sound.{AsksFor, AsksRow, HasKept, IsSound, WasAcknowledged, began}
 use Rattle.store_laws.proofs.Values.{given_good, says_row}
 use Rattle.store_anchors.proofs.Cited.{Cited}
 use Rattle.store_anchors.proofs.Laid.{IsLaidIn}
 use Rattle.store_anchors.proofs.Reading.{gave}
+use Rattle.store_laws.proofs.Deeds.{Deed, IsSafe}
 
-module _ {H : List ℕ → Type 0} where
+module _ {H : Deed → Type 0} where
   module _ (cited : Cited H) (moves : List Moving) (s : State) (sound : IsSound H s) (laid : IsLaidIn H moves s) (q : ℕ) (a : Asked) (at : numbered s.asked q ≡ Some a) (block : ℕ) (name : Name) (aim : Aim) (flow_is : a.flow ≡ Some (flow_of q block (Looking name aim))) (value : Option AnyRow) (h : HasRead s.asked s.history s.world.reads q value) where
     -- the row that it asked for is the object's
     asks : AsksRow name h.question
@@ -59,25 +65,29 @@ module _ {H : List ℕ → Type 0} where
     pub said_found : (said : Said) → said_of value ≡ said → (said ≡ none → ⊥) → (r : ObjectRow) × IsFound s.draws r name said
     said_found said e some = let row = says_row value said e some in (row.0, subst (IsFound s.draws row.0 name) row.2 (object_found row.0 row.1))
 
-    by_kind : (w : Version) (row : AnyRow) → value ≡ Some row → CoversRow row w → (r : ObjectRow) × (value ≡ Some (rows.Object r)) × CoversIn r w
-    by_kind w (rows.Object r) e c = (r, e, c)
-    by_kind w (rows.Version r) e c = absurd c
-    by_kind w (rows.Ref r) e c = absurd c
+    value_here : (row : AnyRow) → value ≡ Some row → IsHere (row_key name) row
+    value_here row e = let known = value_known row e in record { table = known.table; key_is = known.key; is_proper = known.is_proper }
 
-    -- it is an object's row, which covers what was acknowledged before
-    covered : (before after : List Record) (n : ℕ) (kind : Kind) (own : Name) (w : Version) → s.history ≡ before ++ began q n kind own ∷ after → WasAcknowledged before name w → (r : ObjectRow) × (value ≡ Some (rows.Object r)) × CoversIn r w
-    covered before after n kind own w cut ack =
+    -- it is an object's row, which covers what was acknowledged before, or a marker that was collected covers that
+    covered : IsSafe H → (before after : List Record) (n : ℕ) (kind : Kind) (own : Name) (w : Version) → s.history ≡ before ++ began q n kind own ∷ after → WasAcknowledged before name w →
+        IsCovering value w ⊎ IsPassed s.draws s.world.collected name value w
+    covered safe before after n kind own w cut ack =
         let k : HasKept h.question.kept name w = h.is_asking.has before after n kind own cut name w ack in
-        let over : IsOver any_join words value (row_at any_join words h.question.kept h.question.table h.question.key) = reached_kept cited.every s.world sound.reached cited.clear (read h.question value) h.is_there in
-        let over_row : IsOver any_join words value (row_at any_join words h.question.kept 1 (row_key name)) =
-        subst (λ (i : List ℕ). IsOver any_join words value (row_at any_join words h.question.kept 1 i)) asks.1 (subst (λ (t : ℕ). IsOver any_join words value (row_at any_join words h.question.kept t h.question.key)) asks.0 over) in
-        let c = covers name w k.block k.wish s.draws h.question.kept value h.is_asking.proper k.is_there over_row value_known in
-        by_kind w c.0 c.1 c.2
+        let g : GaveClean s.world.collected (read h.question value) = reached_clean cited.every s.world sound.reached (record { apart = cited.clear; safe = safe }) (read h.question value) h.is_there in
+        let P : ℕ → List ℕ → Type 0 = λ t i. IsOver any_join words (option_join any_join (row_at any_join words g.collected t i) value) (row_at any_join words h.question.kept t i) in
+        let over : P 1 (row_key name) = subst (P 1) asks.1 (subst (λ (t : ℕ). P t h.question.key) asks.0 g.kept) in
+        value_covers s.draws s.world.collected g.collected g.among g.marked (reached_gone cited.every s.draws s.world sound.reached) name value
+        (λ r u there marked same row e.
+        let here = value_here row e in
+        subst (λ (v : Option AnyRow). GaveNotBelow words object_versions (words.key r) u (read h.question v)) e (g.clean r u there marked) here.table (here.key_is ∙ sym same))
+        w k.block k.wish h.question.kept h.is_asking.proper k.is_there value_here over
 
     -- so the version that is said is not below that
-    pub not_below : (before after : List Record) (n : ℕ) (kind : Kind) (own : Name) → s.history ≡ before ++ began q n kind own ∷ after → (said : Said) (v : Version) → said_of value ≡ said → ((u : Version) → IsSaid u said → v ≡ u) →
+    pub not_below : IsSafe H → (before after : List Record) (n : ℕ) (kind : Kind) (own : Name) → s.history ≡ before ++ began q n kind own ∷ after → (said : Said) (v : Version) → said_of value ≡ said → IsSaid v said → ((u : Version) → IsSaid u said → v ≡ u) →
         (w : Version) → WasAcknowledged before name w → ¬ Below v w
-    not_below before after n kind own cut said v e one w ack =
-        let c = covered before after n kind own w cut ack in
-        let says : said_by c.0 ≡ said = sym (ap said_of c.1) ∙ e in
-        subst (λ (u : Version). ¬ Below u w) (sym (one c.2.version (subst (IsSaid c.2.version) says c.2.says))) c.2.not_below
+    not_below safe before after n kind own cut said v e mine one w ack = elim (covered safe before after n kind own w cut ack) [
+      | inl c ↦
+          let says : said_by c.row ≡ said = sym (ap said_of c.value_is) ∙ e in
+          subst (λ (u : Version). ¬ Below u w) (sym (one c.covers.version (subst (IsSaid c.covers.version) says c.covers.says))) c.covers.not_below
+      | inr p ↦ p.not_below v (subst (IsSaid v) (sym e) mine)
+    ]

@@ -8,14 +8,14 @@ use Rattle.quorum_model.specs.declared.range.RangeAnswer.{RangeAnswer}
 use Rattle.quorum_model.specs.Quorum.{StoreSlot, with_confirmation}
 use Rattle.quorum_model.specs.Window.{Window}
 use Rattle.wire_messages.specs.declared.message.Message.{Message}
-use Rattle.wire_messages.specs.declared.message.Message.TheVariants.{Get, Row, Range, Rows, Store, Stored, Behind, NotHere, BlockGet, Block, NoBlock, Walk as AsksValue, Same as HasSame, Differ}
+use Rattle.wire_messages.specs.declared.message.Message.TheVariants.{Get, Row, Range, Rows, Store, Stored, Behind, NotHere, BlockGet, Block, NoBlock, Walk as AsksValue, Same as HasSame, Differ, Tomb, Tombed, Forget}
 use Rattle.blake2_hash.specs.declared.digest.Hash32.{Hash32}
 use Rattle.wire_messages.specs.declared.message.Tag.{Tag}
 use Rattle.wire_messages.specs.declared.message.Tag.TheVariants.{Call as ForCall, Round as ForRound, Item as ForItem}
 use Rattle.wire_messages.specs.declared.phase.PhaseEnd.{PhaseEnd}
 use Rattle.wire_messages.specs.declared.phase.PhaseEnd.TheVariants.{Row as GaveRow, Window as GaveWindow, Kept as IsKept, Block as GaveBlock}
 use Rattle.cluster_machine.specs.declared.step.Action.{Action}
-use Rattle.cluster_machine.specs.declared.step.Action.TheVariants.{Ack as RaiseAck, Sync as GoOn, SyncAck as RaiseSyncAck, Clean, Work, Repair}
+use Rattle.cluster_machine.specs.declared.step.Action.TheVariants.{Ack as RaiseAck, Sync as GoOn, SyncAck as RaiseSyncAck, Clean, Work, Repair, Collect}
 use Rattle.cluster_machine.specs.Layouts.{Layouts, is_given, is_stored}
 use Rattle.cluster_machine.specs.Node.{Question, Scan, Present, resting, asking, scanning, storing, fetching, Call, Node, Walk, Round, Mending, Packet, says, shows, read, scanned, Did, Ended, Reading, quiet}
 use Rattle.cluster_machine.specs.Rows.{accepts_all, block_at}
@@ -23,6 +23,7 @@ use Rattle.cluster_machine.specs.Phases.{call_at, calls_now, ended, asked, looke
 use Rattle.cluster_machine.specs.Rounds.{goes_on, may_sync, walk_at, walk_after, walks_after, found_same, round_walks, mending_walks, at_walk, mending_came, with_mending, with_lasting, late_came, answer_came, walked_anew}
 use Rattle.cluster_machine.specs.Receives.{answers, where_stored, gives_block, takes, round_came, compares, walks_on, confirms, hears, receives}
 use Rattle.cluster_machine.specs.Acts.{Acted, syncs, acts}
+use Rattle.machine_origins.proofs.Collecting.{tomb_beside, tombed_beside, forget_beside, collects_beside}
 use Rattle.machine_origins.proofs.FollowingCalls.{was}
 use Rattle.machine_origins.proofs.FollowingSteps.{calls_all, calls_seen, calls_round, calls_begun}
 
@@ -185,6 +186,9 @@ module _ {R L : Type 0} (x : Node R L) (may : ℕ → Type 0) (busy : (c : Call 
     stays_hears id now from (AsksValue tag named p table prefix hash) = stays_compares id from tag named p table prefix hash
     stays_hears id now from (HasSame tag table prefix) = stays_walks id from tag table prefix None
     stays_hears id now from (Differ tag table prefix pairs) = stays_walks id from tag table prefix (Some pairs)
+    stays_hears id now from (Tomb number round row) = stays_same _ (tomb_beside join s x k id now from number round row).calls
+    stays_hears id now from (Tombed number round named) = stays_same _ (tombed_beside join s x k id now from number round named).calls
+    stays_hears id now from (Forget table key hash) = stays_same _ (forget_beside join s x table key hash.0).calls
 
     pub stays_receives : (id now from : ℕ) (packet : Packet R L) → Stays (receives join s k id now x from packet)
     stays_receives id now from (says m) = stays_hears id now from m
@@ -210,3 +214,4 @@ module _ {R L : Type 0} (join : R → R → R) (s : Words R) (k : Layouts L) (x 
   leaves_acts id now Clean = calls_seen join s k id now x (cleaned k.reading x.view)
   leaves_acts id now Work = refl
   leaves_acts id now Repair = refl
+  leaves_acts id now Collect = (collects_beside join s x k id now).calls

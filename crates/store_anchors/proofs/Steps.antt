@@ -34,7 +34,7 @@ use Rattle.store_laws.proofs.Grown.{asked_told}
 use Rattle.store_laws.proofs.Ends.{asked_of}
 use Rattle.store_laws.proofs.Opening.{beginning, opening}
 use Rattle.machine_origins.proofs.Places.{numbered_push_cases, numbered_within}
-use Rattle.store_laws.proofs.Sound.{IsSound}
+use Rattle.store_laws.proofs.Sound.{IsSound, sights}
 use Rattle.store_anchors.proofs.Kept.{Past, Grows, IsRowOf, replaced_asked}
 use Rattle.block_laws.specs.Fetched.{Fetched, EndedSo, GaveItsBlock}
 use Rattle.cluster_machine.specs.Run.{run as machine_run, does as machine_does}
@@ -51,6 +51,7 @@ use Rattle.store_anchors.proofs.Cited.{Cited}
 use Rattle.store_anchors.proofs.Laid.{digest, Holds, Stores, Asks, Gets, Awaits, AreRows, IsFit, past, past_after, after_grows, blocks_old, IsLaid, IsLaidIn, IsApt, IsStepOf, still_of, holds_later, fit_later, fit_continues, laid_step, laid_told, Scans}
 use Rattle.store_anchors.proofs.Phases.{phase_begun}
 use Rattle.store_laws.proofs.Hashing.{FitIn}
+use Rattle.store_laws.proofs.Deeds.{Deed}
 
 -- ---- a phase that ended
 
@@ -122,7 +123,7 @@ module _ (asked : List Asked) (old new : Past) (more : Grows old new) (keeps : L
 
 -- ---- a step in which no phase begins
 
-module _ {H : List ℕ → Type 0} where
+module _ {H : Deed → Type 0} where
   module _ (cited : Cited H) (moves : List Moving) (s : State) (m : Moving) (lawful : IsLawfulRun any_join words s.world (m ∷ [])) (calm : IsCalm s.world (effect s m)) (laid : IsLaidIn H moves s) where
     abbrev now : Past
     now = past_after moves s m
@@ -232,7 +233,7 @@ module _ {H : List ℕ → Type 0} where
           awaits = λ o f there is. elim (numbered_push_cases s.asked a c.request o there) [
             | inl there ↦ was.awaits o f there is
             | inr e ↦
-                let here = asked_of H s.asked s.draws s.history s.saw k c.request c.present (sound.presents k c h) in
+                let here = asked_of H s.asked s.draws s.history (sights s) k c.request c.present (sound.presents k c h) in
                 let low : c.request ≤ length s.asked = numbered_within s.asked c.request here.one here.is_there in
                 let high : c.request ≡ suc (length s.asked) = e.0 in
                 absurd (omega arith)

@@ -3,7 +3,7 @@ use Rattle.history_model.specs.declared.record.Kind.TheVariants.{Get}
 use Rattle.blake2_hash.specs.Hash.{digest_of}
 use Rattle.flow_model.specs.declared.flow.Name.{Name}
 use Rattle.std.proofs.Common.{ap, sym, ◌∙◌}
-use Rattle.std.specs.Prelude.{◌≡◌, List, Some, ℕ}
+use Rattle.std.specs.Prelude.{◌≡◌, List, Some}
 use Rattle.store_model.specs.Run.{start, Asked, Draw}
 use Rattle.store_model.specs.Acts.{Act, after_acts, AreLawfulActs}
 use Rattle.store_laws.specs.Promised.{GoesOn, IsRightlySuperseded}
@@ -13,8 +13,9 @@ use Rattle.store_anchors.proofs.Busy.{goes_on_always}
 use Rattle.store_anchors.proofs.Cited.{Cited}
 use Rattle.store_anchors.proofs.Acts.{held, told}
 use Rattle.store_laws.proofs.Hashing.{ActsIn}
+use Rattle.store_laws.proofs.Deeds.{Deed}
 
-module _ {H : List ℕ → Type 0} where
+module _ {H : Deed → Type 0} where
   module _ (cited : Cited H) (acts : List Act) (lawful : AreLawfulActs start acts) (fit : ActsIn H start acts) where
     pub rightly : IsRightlySuperseded acts
     rightly q id c =

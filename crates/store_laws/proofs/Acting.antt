@@ -46,18 +46,19 @@ use Rattle.flow_model.specs.Next.{drawn, stores, more, found, looked, reads_on, 
 use Rattle.store_model.specs.Run.{State, Asked, Draw, effect, phases, set_flow, finishes, takes, follows}
 use Rattle.store_laws.proofs.Elements.{same_bytes}
 use Rattle.store_laws.proofs.Every.{EveryWorld}
-use Rattle.store_laws.proofs.Sound.{IsWishOf, AsksRow, IsAimOf, LooksAt, HasFound, HasSeen, HasShown, ScansFor, IsStage, IsSound}
+use Rattle.store_laws.proofs.Sound.{IsWishOf, AsksRow, IsAimOf, LooksAt, HasFound, HasSeen, HasShown, ScansFor, IsStage, IsSound, sights}
 use Rattle.store_laws.proofs.Good.{IsGood}
 use Rattle.store_laws.proofs.Hashes.{HasHash, NamedHave, row_named}
 use Rattle.store_laws.proofs.Grown.{Rests, shown_seen}
 use Rattle.store_laws.proofs.Ends.{IsEnd, HasRead}
-use Rattle.store_laws.proofs.Flows.{saw_sound}
+use Rattle.store_laws.proofs.Flows.{sees_more, saw_sound}
 use Rattle.store_laws.proofs.Finishing.{IsEndOf}
 use Rattle.store_laws.proofs.Rows.{IsInBlocks, SaysWritten}
 use Rattle.store_laws.proofs.Values.{gave_drawn, version_end, given_good, read_written, inline_found, blocks_found, none_end, marked_end}
 use Rattle.store_laws.proofs.Enders.{finishes_keeps, one_end, read_end, nothing_end, stored_end}
 use Rattle.store_laws.proofs.Going.{flow_of, waits_keeps, waits_for, writes_keeps, uploading_keeps, announcing_keeps, block_keeps, completes_keeps, draws_keeps, opens_keeps, fetches_keeps, scans_keeps}
 use Rattle.store_laws.proofs.Hashing.{FitIn}
+use Rattle.store_laws.proofs.Deeds.{Deed}
 
 -- a get or head names its own key
 own_get : (k : Kind) → k ≡ kind.Get → (mine key : List ℕ) → IsTrue (names k mine key) → mine ≡ key
@@ -73,7 +74,7 @@ value_named draws (Some (rows.Object r)) size good = tt
 value_named draws (Some (rows.Version r)) size good = row_named r size (good (rows.Version r) refl).0
 value_named draws (Some (rows.Ref r)) size good = tt
 
-module _ {H : List ℕ → Type 0} where
+module _ {H : Deed → Type 0} where
   -- a number of a request is one of the code's
   pub number_fits : (s : State) (q : ℕ) (a : Asked) (e : Effect AnyRow) → numbered s.asked q ≡ Some a → IsSound H s → Fits words (applied s.world e) → q < 2 ^ 64
   number_fits s q a e at sound fits =
@@ -180,28 +181,28 @@ module _ {H : List ℕ → Type 0} where
 
   module _ (every : EveryWorld H) (s : State) (q : ℕ) (a : Asked) (at : numbered s.asked q ≡ Some a) (rests : Rests s q) (block : ℕ) (sound : IsSound H s) where
     -- a list that has shown so much goes on past it, or is done
-    lists_keeps : (bucket prefix : List ℕ) (rows : List ObjectRow) (reach : Option (List ℕ)) → IsStage H s.draws s.history q a (Listing bucket prefix rows) → HasShown H s.draws s.history s.saw q (record { bucket = bucket; key = prefix }) rows reach →
+    lists_keeps : (bucket prefix : List ℕ) (rows : List ObjectRow) (reach : Option (List ℕ)) → IsStage H s.draws s.history q a (Listing bucket prefix rows) → HasShown H s.draws s.history (sights s) q (record { bucket = bucket; key = prefix }) rows reach →
         FitIn H s.world (takes s q a [] (lists q block bucket prefix rows reach)).moves → IsSound H (takes s q a [] (lists q block bucket prefix rows reach)).state
     lists_keeps bucket prefix rows None stage shown fits =
         finishes_keeps every s q a at rests (Listed rows) fits (λ n x is. one_end every s q a at rests (answer.Listed (versions_of (entries rows))) x n
         (read_end every s q a at rests (answer.Listed (versions_of (entries rows))) (subst (λ (k : Kind). IsTrue (is_read k)) (sym stage.0) refl)
-        (listed_end s q a at sound stage.0 rows (subst (λ (m : Name). HasShown H s.draws s.history s.saw q m rows None) (sym stage.1) shown))) is) sound
+        (listed_end s q a at sound stage.0 rows (subst (λ (m : Name). HasShown H s.draws s.history (sights s) q m rows None) (sym stage.1) shown))) is) sound
     lists_keeps bucket prefix rows (Some after) stage shown fits = scans_keeps every s q a at rests block bucket prefix rows after stage shown fits sound
 
 -- ---- a phase ended
 
-module _ {H : List ℕ → Type 0} where
+module _ {H : Deed → Type 0} where
   module _ (every : EveryWorld H) (s : State) (q : ℕ) (a : Asked) (at : numbered s.asked q ≡ Some a) (rests : Rests s q) (block : ℕ) (sound : IsSound H s) where
     abbrev pub Keeps : Stage → PhaseEnd AnyRow → Type 0
     Keeps stage end =
         a.flow ≡ Some (flow_of q block stage) → IsStage H s.draws s.history q a stage → FitIn H s.world (follows s q a end (Some (flow_of q block stage))).moves →
-        IsEnd H s.asked s.draws s.history s.saw s.world.kept s.world.reads q end → IsSound H (follows s q a end (Some (flow_of q block stage))).state
+        IsEnd H s.asked s.draws s.history (sights s) s.world.kept s.world.reads q end → IsSound H (follows s q a end (Some (flow_of q block stage))).state
 
     abbrev pub seeing : PhaseEnd AnyRow → State
     seeing end = record s { saw = record { request = q; end = end } ∷ s.saw }
 
     abbrev pub HasEnded : PhaseEnd AnyRow → Type 0
-    HasEnded end = IsEnd H s.asked s.draws s.history s.saw s.world.kept s.world.reads q end
+    HasEnded end = IsEnd H s.asked s.draws s.history (sights s) s.world.kept s.world.reads q end
 
     seen_sound : (end : PhaseEnd AnyRow) → HasEnded end → IsSound H (seeing end)
     seen_sound end h = saw_sound s (record { request = q; end = end }) (gave_drawn every s q sound end h) sound
@@ -297,11 +298,11 @@ module _ {H : List ℕ → Type 0} where
         let one_is : w.one ≡ a = cc in
         let flows : Some w.flow ≡ Some (flow_of q block (Listing bucket prefix rows)) = sym w.flow_is ∙ (ap (λ (b : Asked). b.flow) one_is ∙ flow_is) in
         let same : w.flow ≡ flow_of q block (Listing bucket prefix rows) = cc in
-        let scans : ScansFor H s.draws s.history s.saw q (Listing bucket prefix rows) end.scan = subst (λ (f : Flow). ScansFor H s.draws s.history s.saw q f.stage end.scan) same end.is_scanning.scans in
+        let scans : ScansFor H s.draws s.history (sights s) q (Listing bucket prefix rows) end.scan = subst (λ (f : Flow). ScansFor H s.draws s.history (sights s) q f.stage end.scan) same end.is_scanning.scans in
         let own : Name = record { bucket = bucket; key = prefix } in
-        let shown : HasShown H now.draws now.history now.saw q own (rows ++ shown_rows others) reach =
+        let shown : HasShown H now.draws now.history (sights now) q own (rows ++ shown_rows others) reach =
         window_shown every now q (seen_sound (Window others reach) end) bucket prefix rows others reach end.scan end.is_there scans.0 scans.1 end.is_scanning.has end.is_scanning.proper
-        (shown_seen H s.draws s.history s.saw (record { request = q; end = Window others reach }) q own rows (Some end.scan.after) scans.2) (0, omega arith, refl) in
+        (shown_seen H s.draws s.history (sights s) (sights now) (sees_more s (record { request = q; end = Window others reach })) q own rows (Some end.scan.after) scans.2) (0, omega arith, refl) in
         lists_keeps every now q a at rests block (seen_sound (Window others reach) end) bucket prefix (rows ++ shown_rows others) reach stage shown fits
     stage_keeps (Listing bucket prefix rows) Kept flow_is stage fits end = goes_waiting (Listing bucket prefix rows) Kept flow_is end
     stage_keeps (Listing bucket prefix rows) (Block bytes) flow_is stage fits end = goes_waiting (Listing bucket prefix rows) (Block bytes) flow_is end

@@ -30,14 +30,14 @@ use Rattle.flow_model.specs.Flow.{asks_for, asks_past}
 use Rattle.store_model.specs.Orders.{buckets_of}
 use Rattle.store_model.specs.Run.{Moving, State, start, Asked, Outcome, silent, refusal, plainly, effect, doing, is_bucket, are_buckets, phases, new_request, opened, begins, follows, follow, goes_on, delivers, then_drains, drains}
 use Rattle.store_model.specs.Acts.{Act, moves, installs, asks, delivery, drain, forgets, takes as takes_end, without_end, adds, cuts, feeds, keeps, gives_up, endings, plain, acted, after_acts, IsOuter, HasKey, IsLawfulAct, AreLawfulActs, ActsFit}
-use Rattle.store_model.specs.Fresh.{IsFresh}
+use Rattle.store_collects.specs.Fresh.{IsFresh}
 use Rattle.store_model.proofs.Leads.{delivers_lead}
 use Rattle.store_laws.proofs.Elements.{bucket_in, none_in}
 use Rattle.machine_origins.proofs.Calm.{IsCalmStep}
 use Rattle.store_laws.proofs.Every.{EveryWorld}
 use Rattle.store_laws.proofs.Good.{IsGood}
 use Rattle.store_laws.proofs.Placing.{asks_is_step, asks_is_meant, scan_is_step, scan_is_meant}
-use Rattle.store_laws.proofs.Sound.{began, HasPhase, AsksRow, AsksFor, listed, HasShown, IsStage, IsSound}
+use Rattle.store_laws.proofs.Sound.{began, HasPhase, AsksRow, AsksFor, listed, HasShown, IsStage, IsSound, sights}
 use Rattle.store_laws.proofs.Orders.{past_none}
 use Rattle.history_model.specs.declared.record.Kind.{Kind}
 use Rattle.history_model.specs.declared.record.Kind.TheVariants as kind
@@ -55,10 +55,9 @@ use Rattle.store_laws.proofs.Starting.{start_sound, bucket_sound, block_sound, e
 use Rattle.store_laws.proofs.Going.{flow_of}
 use Rattle.store_laws.proofs.Acting.{stage_keeps}
 use Rattle.store_laws.proofs.Hearing.{feeding_keeps, keeping_keeps, giving_up_keeps}
-use Rattle.cluster_machine.specs.Hashes.{NoClash as NoTrieClash}
-use Rattle.store_laws.specs.Hashed.{ActsHash}
 use Rattle.store_laws.proofs.Hashing.{FitIn, fit_in, in_parts}
 use Rattle.std.proofs.Common.{inl, inr}
+use Rattle.store_laws.proofs.Deeds.{Deed, IsClear, ActsDo}
 
 -- steps that fit, in two parts
 pub fit_parts : {R : Type 0} (join : R → R → R) (ws : Words R) (w : Model R) (first rest : List (Doing R)) → FitAll join ws w (first ++ rest) → FitAll join ws w first × FitAll join ws (world_run join ws w first) rest
@@ -73,7 +72,7 @@ run_parts join ws w (m ∷ first) rest = run_parts join ws (world_next join ws w
 no_write : {k : Kind} → k ≡ kind.List → IsTrue (is_write k) → {A : Type 0} → A
 no_write e w = (let no : IsTrue (is_write kind.List) = subst (λ (k : Kind). IsTrue (is_write k)) e w in cc)
 
-module _ {H : List ℕ → Type 0} where
+module _ {H : Deed → Type 0} where
   module _ (every : EveryWorld H) where
     -- ---- deliveries
 
@@ -81,7 +80,7 @@ module _ {H : List ℕ → Type 0} where
       abbrev pub FlowKeeps : Option Flow → Type 0
       FlowKeeps flow = FitIn H s.world (follows s q a end flow).moves → IsSound H (follows s q a end flow).state
 
-      flow_keeps : (flow : Option Flow) → a.flow ≡ flow → IsEnd H s.asked s.draws s.history s.saw s.world.kept s.world.reads q end → FlowKeeps flow
+      flow_keeps : (flow : Option Flow) → a.flow ≡ flow → IsEnd H s.asked s.draws s.history (sights s) s.world.kept s.world.reads q end → FlowKeeps flow
       flow_keeps None flow_is h fits = sound
       flow_keeps (Some flow) flow_is h fits =
           let stage = sound.stages q a flow at flow_is in
@@ -90,12 +89,12 @@ module _ {H : List ℕ → Type 0} where
           (λ fits. stage_keeps every s q a at rests flow.block sound flow.stage end (flow_is ∙ ap Some numbered_so) stage.1 fits h) fits
 
     follow_keeps : (s : State) (q : ℕ) (asked : Option Asked) (end : PhaseEnd AnyRow) → numbered s.asked q ≡ asked → Rests s q → FitIn H s.world (follow s q asked end).moves → IsSound H s →
-        IsEnd H s.asked s.draws s.history s.saw s.world.kept s.world.reads q end → IsSound H (follow s q asked end).state
+        IsEnd H s.asked s.draws s.history (sights s) s.world.kept s.world.reads q end → IsSound H (follow s q asked end).state
     follow_keeps s q None end at rests fits sound h = sound
     follow_keeps s q (Some a) end at rests fits sound h = flow_keeps s q a at rests sound end a.flow refl h fits
 
     goes_on_keeps : (s : State) (ends : List (Ended AnyRow)) → FitIn H s.world (goes_on s ends).moves → IsSound H s →
-        AllByRecursion (λ (e : Ended AnyRow). IsEnd H s.asked s.draws s.history s.saw s.world.kept s.world.reads e.request e.how × Rests s e.request) ends → IsSound H (goes_on s ends).state
+        AllByRecursion (λ (e : Ended AnyRow). IsEnd H s.asked s.draws s.history (sights s) s.world.kept s.world.reads e.request e.how × Rests s e.request) ends → IsSound H (goes_on s ends).state
     goes_on_keeps s [] fits sound h = sound
     goes_on_keeps s (e ∷ es) fits sound h = follow_keeps s e.request (numbered s.asked e.request) e.how refl h.0.1 fits sound h.0.0
 
@@ -145,7 +144,7 @@ module _ {H : List ℕ → Type 0} where
         let now : State = opening s a in
         let is_open : IsSound H now = opened_sound s a flow flow_is refl (kind_is, name_is) member (subst (λ (m : Name). Contains s.buckets m.bucket) (sym name_is) there)
         (λ w. no_write kind_is w) (tt, tt, tt, fits.0.1, tt) fits.0.2 sound in
-        let shown : HasShown H now.draws now.history now.saw q own [] (Some []) = record {
+        let shown : HasShown H now.draws now.history (sights now) q own [] (Some []) = record {
           shown = λ r c. absurd (none_in r c);
           covers = λ clear before after n k key w cut begins within ack.
               let has_begun : Contains now.history (began ack.request ack.node ack.kind (listed own key)) =
@@ -156,7 +155,7 @@ module _ {H : List ℕ → Type 0} where
         } in
         step_sound now (phases q (asks_past bucket prefix [])) is_open (scan_is_meant q bucket prefix [], scan_is_step q bucket prefix [], tt, fits.1.0.1, tt) fits.1.0.2 (All-nil (IsGood s.draws))
         (scans_fine now is_open (reached_different every now.world is_open.reached) q a flow (new_there s a sound) flow_is tt bucket prefix []
-        (λ scan position prefix_is after_is. (position, prefix_is, subst (λ (e : List ℕ). HasShown H now.draws now.history now.saw q own [] (Some e)) (sym after_is) shown)))
+        (λ scan position prefix_is after_is. (position, prefix_is, subst (λ (e : List ℕ). HasShown H now.draws now.history (sights now) q own [] (Some e)) (sym after_is) shown)))
 
     opened_keeps : (s : State) (n : ℕ) (o : Order) → HasKey o → is_member_at layouts s.world n ≡ true → are_buckets s.buckets (buckets_of o) ≡ true → FitIn H s.world (opened s n o).moves → IsSound H s → IsSound H (opened s n o).state
     opened_keeps s n (order.Put bucket key body headers) keyed member buckets fits sound =
@@ -219,6 +218,7 @@ module _ {H : List ℕ → Type 0} where
     outer_calm (step.Clean n) h = (tt, tt, refl)
     outer_calm (step.Work n) h = (tt, tt, refl)
     outer_calm (step.Repair n) h = (tt, tt, refl)
+    outer_calm (step.Collect n) h = (tt, tt, refl)
     outer_calm (step.Open n) h = absurd h
     outer_calm (step.Phase q phase) h = absurd h
     outer_calm (step.Close q) h = absurd h
@@ -251,10 +251,10 @@ module _ {H : List ℕ → Type 0} where
     act_keeps s (keeps q) lawful fits sound = keeping_keeps every s q sound fits
     act_keeps s (gives_up q) lawful fits sound = giving_up_keeps every s q sound fits
 
-    pub acts_keep : (s : State) (as' : List Act) → AreLawfulActs s as' → ActsFit s as' → ((x : List ℕ) → ActsHash s as' x → H x) → IsSound H s → IsSound H (after_acts s as')
+    pub acts_keep : (s : State) (as' : List Act) → AreLawfulActs s as' → ActsFit s as' → ((d : Deed) → ActsDo s as' d → H d) → IsSound H s → IsSound H (after_acts s as')
     acts_keep s [] lawful fit all sound = sound
     acts_keep s (a ∷ as') lawful fit all sound =
         acts_keep (acted s a).state as' lawful.1 fit.1 (λ x h. all x (inr h)) (act_keeps s a lawful.0 (fit_in H s.world (acted s a).moves fit.0 (λ x h. all x (inl h))) sound)
 
-    pub acts_fresh : (as' : List Act) → AreLawfulActs start as' → ActsFit start as' → ((x : List ℕ) → ActsHash start as' x → H x) → NoTrieClash H → IsFresh (after_acts start as')
+    pub acts_fresh : (as' : List Act) → AreLawfulActs start as' → ActsFit start as' → ((d : Deed) → ActsDo start as' d → H d) → IsClear H → IsFresh (after_acts start as')
     acts_fresh as' lawful fit all clear = (acts_keep start as' lawful fit all start_sound).fresh clear

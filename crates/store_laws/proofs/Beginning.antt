@@ -28,10 +28,11 @@ use Rattle.flow_model.specs.declared.flow.Name.{Name}
 use Rattle.flow_model.specs.declared.flow.Flow.{Flow}
 use Rattle.flow_model.specs.Flow.{asks_for, asks_past}
 use Rattle.store_model.specs.Run.{State, Asked, phases, effect}
-use Rattle.store_laws.proofs.Sound.{began, WasAcknowledged, IsProper, AreProper, AsksRow, AsksFor, StoresFor, ScansFor, HasBefore, HasPhase, AskedAt, IsPresent, IsSound}
+use Rattle.store_laws.proofs.Sound.{began, WasAcknowledged, IsProper, AreProper, AsksRow, AsksFor, StoresFor, ScansFor, HasBefore, HasPhase, AskedAt, IsPresent, IsSound, sights}
 use Rattle.store_laws.proofs.Ends.{asked_of}
 use Rattle.store_laws.proofs.Grown.{IsStill}
 use Rattle.store_laws.proofs.Stepping.{IsFine, fine_still, fine_one, fine_cond}
+use Rattle.store_laws.proofs.Deeds.{Deed}
 
 -- what was acknowledged in a part of the history
 acknowledged_part : (before rest : List Record) (name : Name) (version : Version) → WasAcknowledged before name version → WasAcknowledged (before ++ rest) name version
@@ -44,7 +45,7 @@ acknowledged_part before rest name version a = record {
   has_finished = Contains-append_left before rest _ a.has_finished;
 }
 
-module _ {H : List ℕ → Type 0} where
+module _ {H : Deed → Type 0} where
   module _ (s : State) (sound : IsSound H s) (differ : (n : ℕ) → AreDifferent (s.world.nodes n).calls) (q : ℕ) (a : Asked) (flow : Flow) (at : numbered s.asked q ≡ Some a) (flow_is : a.flow ≡ Some flow) (has_phase : HasPhase flow.stage) where
     still_at : (n : ℕ) → AskedAt s.asked n q → IsStill s.asked n q flow
     still_at n h =
@@ -52,7 +53,7 @@ module _ {H : List ℕ → Type 0} where
         let one_is : h.one ≡ a = cc in
         record { waits = record { one = h.one; is_there = h.is_there; node_is = h.node_is; flow = flow; flow_is = ap (λ (b : Asked). b.flow) one_is ∙ flow_is; has_phase = has_phase }; flow_is = refl }
 
-    module _ (phase : Phase AnyRow) (is : (n : ℕ) → IsStill s.asked n q flow → (p : Present AnyRow) → Began s.world.kept phase p → IsPresent H s.asked s.draws s.history s.saw n q p) where
+    module _ (phase : Phase AnyRow) (is : (n : ℕ) → IsStill s.asked n q flow → (p : Present AnyRow) → Began s.world.kept phase p → IsPresent H s.asked s.draws s.history (sights s) n q p) where
       call_fine : (n : ℕ) (o : Option (Call AnyRow)) → call_at (s.world.nodes n).calls q ≡ o → IsFine H s (begun any_join words layouts trio stage_trio s.world n phase o)
       call_fine n None e = fine_still s _ sound (λ m. refl) refl (All-nil IsProper)
       call_fine n (Some c) e =
@@ -61,10 +62,10 @@ module _ {H : List ℕ → Type 0} where
           let has = found_there x.calls q c e in
           let b : Begins s.world.kept x c phase d = begins_follow words layouts s.world.kept x c (differ n) has phase in
           let request : c.request ≡ q = found_request x.calls q c e in
-          let here : AskedAt s.asked n q = subst (AskedAt s.asked n) request (asked_of H s.asked s.draws s.history s.saw n c.request c.present (sound.presents n c has)) in
+          let here : AskedAt s.asked n q = subst (AskedAt s.asked n) request (asked_of H s.asked s.draws s.history (sights s) n c.request c.present (sound.presents n c has)) in
           fine_one s _ n d.node sound (λ m. refl) refl (subst (λ ks. AreProper ks) (sym b.ends.1) (All-nil IsProper)) (λ f h. elim (b.calls f h) [
             | inl old ↦ sound.presents n f old
-            | inr new ↦ subst (λ r. IsPresent H s.asked s.draws s.history s.saw n r f.present) (sym (new.0 ∙ request)) (is n (still_at n here) f.present new.2)
+            | inr new ↦ subst (λ r. IsPresent H s.asked s.draws s.history (sights s) n r f.present) (sym (new.0 ∙ request)) (is n (still_at n here) f.present new.2)
           ])
 
       request_fine : (o : Option Request) → IsFine H s (beginning any_join words layouts trio stage_trio s.world q phase o)
@@ -81,7 +82,7 @@ module _ {H : List ℕ → Type 0} where
 
     -- a read phase, whatever it asks for
     module _ (table : ℕ) (position : Hash32) (key : List ℕ) (asks : (question : Question AnyRow) → question.table ≡ table → question.key ≡ key → AsksFor flow.stage question) where
-      reads_present : (n : ℕ) → IsStill s.asked n q flow → (p : Present AnyRow) → Began s.world.kept (Read table position key) p → IsPresent H s.asked s.draws s.history s.saw n q p
+      reads_present : (n : ℕ) → IsStill s.asked n q flow → (p : Present AnyRow) → Began s.world.kept (Read table position key) p → IsPresent H s.asked s.draws s.history (sights s) n q p
       reads_present n still resting b = absurd b
       reads_present n still (asking question answers) b = record {
         waits = still.waits;
@@ -101,7 +102,7 @@ module _ {H : List ℕ → Type 0} where
 
     -- a store phase
     module _ (rows : List (AnyRow × Option (List ℕ))) (proper : AreProper (map (λ r. r.0) rows)) (is_stored : StoresFor s.draws q flow.stage (map (λ r. r.0) rows)) where
-      stores_present : (n : ℕ) → IsStill s.asked n q flow → (p : Present AnyRow) → Began s.world.kept (Store rows) p → IsPresent H s.asked s.draws s.history s.saw n q p
+      stores_present : (n : ℕ) → IsStill s.asked n q flow → (p : Present AnyRow) → Began s.world.kept (Store rows) p → IsPresent H s.asked s.draws s.history (sights s) n q p
       stores_present n still resting b = absurd b
       stores_present n still (asking question answers) b = absurd b
       stores_present n still (scanning scan answers) b = absurd b
@@ -117,7 +118,7 @@ module _ {H : List ℕ → Type 0} where
 
     -- a block phase
     module _ (hash : Hash32) where
-      fetch_present : (n : ℕ) → IsStill s.asked n q flow → (p : Present AnyRow) → Began s.world.kept (Block hash) p → IsPresent H s.asked s.draws s.history s.saw n q p
+      fetch_present : (n : ℕ) → IsStill s.asked n q flow → (p : Present AnyRow) → Began s.world.kept (Block hash) p → IsPresent H s.asked s.draws s.history (sights s) n q p
       fetch_present n still resting b = absurd b
       fetch_present n still (asking question answers) b = absurd b
       fetch_present n still (scanning scan answers) b = absurd b
@@ -128,13 +129,13 @@ module _ {H : List ℕ → Type 0} where
       fetch_fine = phase_fine (Block hash) fetch_present
 
     -- a range phase
-    module _ (bucket prefix after : List ℕ) (scans : (scan : Scan AnyRow) → scan.position ≡ (digest_of bucket).0 → scan.prefix ≡ prefix → scan.after ≡ after → ScansFor H s.draws s.history s.saw q flow.stage scan) where
-      scan_present : (n : ℕ) → IsStill s.asked n q flow → (p : Present AnyRow) → Began s.world.kept (asks_past bucket prefix after) p → IsPresent H s.asked s.draws s.history s.saw n q p
+    module _ (bucket prefix after : List ℕ) (scans : (scan : Scan AnyRow) → scan.position ≡ (digest_of bucket).0 → scan.prefix ≡ prefix → scan.after ≡ after → ScansFor H s.draws s.history (sights s) q flow.stage scan) where
+      scan_present : (n : ℕ) → IsStill s.asked n q flow → (p : Present AnyRow) → Began s.world.kept (asks_past bucket prefix after) p → IsPresent H s.asked s.draws s.history (sights s) n q p
       scan_present n still resting b = absurd b
       scan_present n still (asking question answers) b = absurd b
       scan_present n still (scanning scan answers) b = record {
         waits = still.waits;
-        scans = subst (λ (f : Flow). ScansFor H s.draws s.history s.saw q f.stage scan) (sym still.flow_is) (scans scan b.1 b.2 b.3);
+        scans = subst (λ (f : Flow). ScansFor H s.draws s.history (sights s) q f.stage scan) (sym still.flow_is) (scans scan b.1 b.2 b.3);
         proper = subst AreProper (sym b.4) sound.proper;
         has = subst (HasBefore s.history q) (sym b.4) kept_before;
       }

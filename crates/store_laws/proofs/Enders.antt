@@ -44,6 +44,7 @@ use Rattle.store_laws.proofs.Stepping.{step_sound, calm_fine}
 use Rattle.store_laws.proofs.Flows.{waiting, MayWait, waiting_sound}
 use Rattle.store_laws.proofs.Finishing.{IsEndOf, told_sound}
 use Rattle.store_laws.proofs.Hashing.{FitIn}
+use Rattle.store_laws.proofs.Deeds.{Deed}
 
 -- a source of versions writes
 pub source_writes : (k : Kind) → IsTrue (is_source k) → IsTrue (is_write k)
@@ -77,7 +78,7 @@ write_reads_not kind.Delete w r = cc
 write_reads_not kind.Copy w r = cc
 write_reads_not kind.List w r = cc
 
-module _ {H : List ℕ → Type 0} where
+module _ {H : Deed → Type 0} where
   module _ (every : EveryWorld H) where
     pub is_calm : (s : State) (m : Moving) → IsCalmStep m.step → IsSound H s → IsCalm s.world (effect s m)
     is_calm s m calm sound = calm_step any_join words layouts trio stage_trio s.world (reached_different every s.world sound.reached) m.step m.choice calm

@@ -15,12 +15,13 @@ use Rattle.history_model.specs.declared.record.Record.TheVariants.{Finished, End
 use Rattle.history_model.specs.Record.{is_write}
 use Rattle.flow_model.specs.declared.flow.Name.{Name}
 use Rattle.store_model.specs.Run.{State, Asked}
-use Rattle.store_laws.proofs.Sound.{began, IsAsked, WasAcknowledged, HasKept, Drew, IsFreshEnd, IsSound}
+use Rattle.store_laws.proofs.Sound.{began, IsAsked, WasAcknowledged, HasKept, Drew, IsFreshEnd, sights, IsSound}
 use Rattle.store_laws.proofs.Freshness.{fresh_told}
 use Rattle.store_laws.proofs.Grown.{present_told, stage_told, drawn_told}
+use Rattle.store_laws.proofs.Deeds.{Deed}
 
 -- what a request owes that finishes now with this answer
-pub record IsEndOf (H : List ℕ → Type 0) (s : State) (q : ℕ) (a : Answer) : Type 0 where
+pub record IsEndOf (H : Deed → Type 0) (s : State) (q : ℕ) (a : Answer) : Type 0 where
   pub one : Asked
   pub is_there : numbered s.asked q ≡ Some one
   pub fresh : IsFreshEnd H s q a
@@ -28,7 +29,7 @@ pub record IsEndOf (H : List ℕ → Type 0) (s : State) (q : ℕ) (a : Answer) 
 
 -- ---- a record that begins nothing
 
-module _ {H : List ℕ → Type 0} where
+module _ {H : Deed → Type 0} where
   module _ (s : State) (x : Record) (never : (q n : ℕ) (kind : Kind) (name : Name) → x ≡ began q n kind name → ⊥) (ends : (q : ℕ) (a : Answer) → x ≡ Finished q a → IsEndOf H s q a) (sound : IsSound H s) where
     begun_before : (q n : ℕ) (kind : Kind) (name : Name) → Contains (s.history ++ x ∷ []) (began q n kind name) → Contains s.history (began q n kind name)
     begun_before q n kind name c = elim (Contains-push_cases s.history x (began q n kind name) c) [
@@ -61,7 +62,7 @@ module _ {H : List ℕ → Type 0} where
       bucket_there = sound.told.bucket_there;
       key_there = λ p m kind name c. sound.told.key_there p m kind name (begun_before s x never ends sound p m kind name c);
     };
-    presents = λ n c h. present_told H s.asked s.draws s.history s.saw x (λ p m kind name o e at. never p m kind name e) n c.request c.present (sound.presents n c h);
+    presents = λ n c h. present_told H s.asked s.draws s.history (sights s) x (λ p m kind name o e at. never p m kind name e) n c.request c.present (sound.presents n c h);
     stages = λ q a flow at is. (let was = sound.stages q a flow at is in (was.0, stage_told H s.asked s.draws s.history x (λ p m kind name o e at. never p m kind name e) q a at flow.stage was.1));
     drawn = λ d c. drawn_told s.buckets s.history x d (sound.drawn d c);
     acknowledged = λ name version a. (acknowledged_now s x never ends sound name version a).0;

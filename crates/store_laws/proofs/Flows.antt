@@ -12,21 +12,29 @@ use Rattle.store_model.specs.Run.{State, Asked, Draw, Saw, set_flow}
 use Rattle.store_model.specs.Fresh.{Gave}
 use Rattle.store_laws.proofs.Elements.{cons_cases}
 use Rattle.machine_origins.proofs.Places.{numbered_set_cases}
-use Rattle.store_laws.proofs.Sound.{began, HasDrawn, IsStage, IsSound}
-use Rattle.store_laws.proofs.Freshness.{fresh_later}
+use Rattle.store_laws.proofs.Sound.{began, HasDrawn, IsStage, IsSound, sights}
+use Rattle.store_laws.proofs.Freshness.{Sees, fresh_later}
 use Rattle.store_laws.proofs.Rows.{IsOf}
 use Rattle.store_laws.proofs.Grown.{Rests, presents_set, present_drawn, present_seen, stage_drawn, asked_set, answered_drawn, saw_drawn}
 use Rattle.store_laws.proofs.Reached.{reached_draws}
+use Rattle.store_laws.proofs.Deeds.{Deed}
 
 -- the request waits for this, and drew these versions
 abbrev pub waiting : State → ℕ → Asked → Option Flow → List Draw → State
 waiting s q a flow newer = record s { asked = set_flow s q a flow; draws = newer ++ s.draws }
 
 -- what a request may wait for
-abbrev pub MayWait : (List ℕ → Type 0) → List Draw → List Record → ℕ → Asked → Option Flow → Type 0
+abbrev pub MayWait : (Deed → Type 0) → List Draw → List Record → ℕ → Asked → Option Flow → Type 0
 MayWait H draws history q a flow = (f : Flow) → flow ≡ Some f → (f.id ≡ q) × IsStage H draws history q a f.stage
 
-module _ {H : List ℕ → Type 0} where
+-- a phase that ended is seen
+abbrev pub seeing : State → Saw → State
+seeing s x = record s { saw = x ∷ s.saw }
+
+pub sees_more : (s : State) (x : Saw) → Sees (sights s) (sights (seeing s x))
+sees_more s x = record { saw = λ y c. Contains-append_right (x ∷ []) s.saw y c; collected = λ r h. h }
+
+module _ {H : Deed → Type 0} where
   pub waiting_sound : (s : State) (q : ℕ) (a : Asked) (flow : Option Flow) (newer : List Draw) → numbered s.asked q ≡ Some a → Rests s q → MayWait H (newer ++ s.draws) s.history q a flow →
       ((d : Draw) → Contains newer d → HasDrawn s.buckets s.history d) → IsSound H s → IsSound H (waiting s q a flow newer)
   waiting_sound s q a flow newer at rests may drawn sound =
@@ -53,7 +61,7 @@ module _ {H : List ℕ → Type 0} where
           ];
           key_there = sound.told.key_there;
         };
-        presents = λ n c h. present_drawn H asked s.draws newer s.history s.saw n c.request c.present (presents_set H s q a new at refl rests sound.presents n c h);
+        presents = λ n c h. present_drawn H asked s.draws newer s.history (sights s) n c.request c.present (presents_set H s q a new at refl rests sound.presents n c h);
         stages = λ p o f there is. elim (numbered_set_cases s.asked q p a new o at there) [
           | inl e ↦
               let flow_is : flow ≡ Some f = ap (λ (o : Asked). o.flow) e.1 ∙ is in
@@ -69,16 +77,16 @@ module _ {H : List ℕ → Type 0} where
         answered = answered_drawn s.draws newer s.history sound.answered;
         seen = saw_drawn s.draws newer s.saw sound.seen;
         proper = sound.proper;
-        fresh = λ clear. fresh_later s (waiting s q a flow newer) refl (λ n c. c) (λ d c. Contains-append_right newer s.draws d c) (λ x c. c) (sound.fresh clear);
+        fresh = λ clear. fresh_later s (waiting s q a flow newer) refl (λ n c. c) (λ d c. Contains-append_right newer s.draws d c) (λ x c. c) (λ r h. h) (sound.fresh clear);
       }
 
   -- a phase that ended was seen
-  pub saw_sound : (s : State) (x : Saw) → ((r : ObjectRow) → Gave x.end (rows.Object r) → IsOf s.draws (rows.Object r)) → IsSound H s → IsSound H (record s { saw = x ∷ s.saw })
+  pub saw_sound : (s : State) (x : Saw) → ((r : ObjectRow) → Gave x.end (rows.Object r) → IsOf s.draws (rows.Object r)) → IsSound H s → IsSound H (seeing s x)
   saw_sound s x good sound = record {
     reached = sound.reached;
     lengths = sound.lengths;
     told = sound.told;
-    presents = λ n c h. present_seen H s.asked s.draws s.history s.saw x n c.request c.present (sound.presents n c h);
+    presents = λ n c h. present_seen H s.asked s.draws s.history (sights s) (sights (seeing s x)) (sees_more s x) n c.request c.present (sound.presents n c h);
     stages = sound.stages;
     drawn = sound.drawn;
     acknowledged = sound.acknowledged;
@@ -88,5 +96,5 @@ module _ {H : List ℕ → Type 0} where
       | inr old ↦ sound.seen y r old gave
     ];
     proper = sound.proper;
-    fresh = λ clear. fresh_later s (record s { saw = x ∷ s.saw }) refl (λ n c. c) (λ d c. c) (λ y c. Contains-append_right (x ∷ []) s.saw y c) (sound.fresh clear);
+    fresh = λ clear. fresh_later s (seeing s x) refl (λ n c. c) (λ d c. c) (sees_more s x).saw (λ r h. h) (sound.fresh clear);
   }

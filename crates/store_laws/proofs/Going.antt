@@ -41,7 +41,7 @@ use Rattle.store_laws.proofs.Hashes.{HasHash}
 use Rattle.store_laws.proofs.Rows.{IsKnown}
 use Rattle.store_laws.proofs.Good.{IsGood, complete_is_good, uploading_is_good, aborted_is_good, block_rows_are_good, rows_at_are_good}
 use Rattle.store_laws.proofs.Placing.{asks_is_step, asks_is_meant, stores_is_step, stores_is_meant, one_is_step, complete_is_placed, uploading_is_placed, aborted_is_placed, block_is_step, block_is_meant, block_rows_are_proper, rows_at_is_step, rows_at_is_meant, rows_at_are_proper, opens_is_step, opens_is_meant, fetch_is_step, fetch_is_meant, scan_is_step, scan_is_meant}
-use Rattle.store_laws.proofs.Sound.{began, IsWishOf, HasDrawn, HasPhase, IsProper, StoresFor, HasShown, IsStage, IsSound}
+use Rattle.store_laws.proofs.Sound.{began, IsWishOf, HasDrawn, HasPhase, IsProper, StoresFor, HasShown, IsStage, IsSound, sights}
 use Rattle.store_laws.proofs.Reached.{reached_different}
 use Rattle.store_laws.proofs.Grown.{Rests}
 use Rattle.store_laws.proofs.Stepping.{IsFine, step_sound}
@@ -49,12 +49,13 @@ use Rattle.store_laws.proofs.Beginning.{reads_fine, asks_fine, stores_fine, fetc
 use Rattle.store_laws.proofs.Flows.{waiting, waiting_sound}
 use Rattle.store_laws.proofs.Enders.{wish_writes}
 use Rattle.store_laws.proofs.Hashing.{FitIn}
+use Rattle.store_laws.proofs.Deeds.{Deed}
 
 -- the flow with its number
 abbrev pub flow_of : ℕ → ℕ → Stage → Flow
 flow_of q block stage = record { id = q; block = block; stage = stage }
 
-module _ {H : List ℕ → Type 0} where
+module _ {H : Deed → Type 0} where
   module _ (every : EveryWorld H) (s : State) (q : ℕ) (a : Asked) (at : numbered s.asked q ≡ Some a) (rests : Rests s q) (block : ℕ) where
     -- the request goes on waiting
     pub waits_keeps : (stage : Stage) → a.flow ≡ Some (flow_of q block stage) → IsSound H s → IsSound H (record s { asked = set_flow s q a (Some (flow_of q block stage)) })
@@ -259,7 +260,7 @@ module _ {H : List ℕ → Type 0} where
 
     -- a list scans on
     pub scans_keeps : (bucket prefix : List ℕ) (rows : List ObjectRow) (after : List ℕ) → IsStage H s.draws s.history q a (Listing bucket prefix rows) →
-        HasShown H s.draws s.history s.saw q (record { bucket = bucket; key = prefix }) rows (Some after) →
+        HasShown H s.draws s.history (sights s) q (record { bucket = bucket; key = prefix }) rows (Some after) →
         (let more : Outcome = goes s q a [] (flow_of q block (Listing bucket prefix rows)) (asks_past bucket prefix after) in FitIn H s.world more.moves → IsSound H s → IsSound H more.state)
     scans_keeps bucket prefix rows after stage shown fits sound =
         let flow : Flow = flow_of q block (Listing bucket prefix rows) in
@@ -268,4 +269,4 @@ module _ {H : List ℕ → Type 0} where
         let own : Name = record { bucket = bucket; key = prefix } in
         goes_keeps [] (Listing bucket prefix rows) (asks_past bucket prefix after) stage (λ d c. absurd (none_in d c)) (scan_is_meant q bucket prefix after) (scan_is_step q bucket prefix after) (All-nil (IsGood s.draws))
         (λ is_new there differ. scans_fine new is_new differ q one flow there refl tt bucket prefix after
-        (λ scan position prefix_is after_is. (position, prefix_is, subst (λ (e : List ℕ). HasShown H s.draws s.history s.saw q own rows (Some e)) (sym after_is) shown))) fits sound
+        (λ scan position prefix_is after_is. (position, prefix_is, subst (λ (e : List ℕ). HasShown H s.draws s.history (sights s) q own rows (Some e)) (sym after_is) shown))) fits sound

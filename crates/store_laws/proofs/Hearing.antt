@@ -1,5 +1,5 @@
 -- What the client of a streamed upload does keeps a state sound.
-use Rattle.std.proofs.Common.{◌≡◌, ◌<◌, ◌^◌, inl, inr, ℕ, Option, Some, None, List, [], ◌∷◌, ◌++◌, length, refl, sym, ap, ◌∙◌, subst}
+use Rattle.std.proofs.Common.{◌≡◌, ◌<◌, ◌^◌, inl, inr, ℕ, Option, Some, None, List, [], ◌++◌, length, refl, sym, ap, ◌∙◌, subst}
 use Rattle.cluster_machine.specs.World.{numbered}
 use Rattle.wire_messages.specs.declared.phase.Phase.TheVariants.{Store}
 use Rattle.flow_model.specs.declared.flow.Wish.TheVariants as wish
@@ -10,18 +10,19 @@ use Rattle.flow_model.specs.Rows.{rows_at}
 use Rattle.flow_model.specs.Streams.{Step, fed, finished, given_up}
 use Rattle.store_model.specs.Run.{State, Asked, Draw, effect, phases, heard_in, heard, fills_in, fills_at, feeding, keeping, giving_up}
 use Rattle.store_laws.proofs.Every.{EveryWorld}
-use Rattle.store_laws.proofs.Sound.{HasPhase, IsStage, IsSound}
+use Rattle.store_laws.proofs.Sound.{HasPhase, IsStage, IsSound, sights}
 use Rattle.store_laws.proofs.Grown.{Rests}
 use Rattle.store_laws.proofs.Ends.{rests_or_waits}
 use Rattle.store_laws.proofs.Going.{flow_of, fed_keeps, kept_keeps, given_up_keeps}
 use Rattle.store_laws.proofs.Acting.{number_fits}
 use Rattle.store_laws.proofs.Hashing.{FitIn}
+use Rattle.store_laws.proofs.Deeds.{Deed}
 
-module _ {H : List ℕ → Type 0} where
+module _ {H : Deed → Type 0} where
   module _ (every : EveryWorld H) (s : State) (q : ℕ) (a : Asked) (at : numbered s.asked q ≡ Some a) (sound : IsSound H s) where
     -- a request that needs its client has no phase
     pub needing_rests : (flow : Flow) → a.flow ≡ Some flow → (HasPhase flow.stage → ⊥) → Rests s q
-    needing_rests flow flow_is none n c has is = elim (rests_or_waits H s.asked s.draws s.history s.saw n c.request c.present (sound.presents n c has)) [
+    needing_rests flow flow_is none n c has is = elim (rests_or_waits H s.asked s.draws s.history (sights s) n c.request c.present (sound.presents n c has)) [
       | inl rests ↦ rests
       | inr w ↦
           let some_is : Some w.one ≡ Some a = sym w.is_there ∙ (ap (numbered s.asked) is ∙ at) in

@@ -11,15 +11,16 @@ use Rattle.crdt_rows.specs.declared.version.Version.{Version}
 use Rattle.crdt_rows.specs.declared.object_row.ObjectRow.{ObjectRow}
 use Rattle.crdt_rows.specs.declared.any_row.AnyRow.{AnyRow}
 use Rattle.crdt_rows.specs.declared.any_row.AnyRow.TheVariants as rows
-use Rattle.crdt_rows.specs.AnyRow.{any_join}
 use Rattle.row_codec.specs.NumberLaws.{block_length}
-use Rattle.table_model.specs.Rows.{row_at, find_row, is_at}
+use Rattle.table_model.specs.Rows.{find_row, is_at}
 use Rattle.object_schema.specs.Schema.{words}
+use Rattle.object_collects.specs.Seen.{object_versions}
+use Rattle.collect_reads.specs.Clean.{IsNotBelow}
+use Rattle.store_collects.proofs.Clean.{GaveClean}
 use Rattle.quorum_model.specs.Window.{IsNamed, is_within}
 use Rattle.range_laws.proofs.Ends.{begins_with}
 use Rattle.wire_messages.specs.declared.phase.PhaseEnd.TheVariants.{Window}
 use Rattle.cluster_machine.specs.Node.{Scan, scanned}
-use Rattle.cluster_machine.specs.Kept.{IsOver}
 use Rattle.cluster_machine.specs.World.{numbered}
 use Rattle.history_model.specs.declared.record.Kind.{Kind}
 use Rattle.history_model.specs.declared.record.Kind.TheVariants as kind
@@ -28,23 +29,25 @@ use Rattle.history_model.specs.Record.{names}
 use Rattle.history_model.specs.Fresh.{Below}
 use Rattle.flow_model.specs.declared.flow.Name.{Name}
 use Rattle.flow_model.specs.Rows.{row_key}
-use Rattle.flow_model.specs.Says.{Said, none, marked, inline, in_blocks, said_by, is_object, is_shown, object_rows, shown_rows}
+use Rattle.flow_model.specs.Says.{Said, none, marked, inline, in_blocks, said_by, said_of, is_object, is_shown, object_rows, shown_rows}
 use Rattle.store_model.specs.Answers.{Entry, with_entry, entries, versions_of}
 use Rattle.store_model.specs.Run.{State, Asked, Draw}
 use Rattle.store_model.specs.Fresh.{IsMarked}
-use Rattle.store_laws.proofs.Elements.{at_cut, none_in, cons_cases, there, found_in}
+use Rattle.store_laws.proofs.Elements.{at_cut, none_in, cons_cases, there, found_in, picked}
 use Rattle.object_schema.specs.Laws.{key_parts}
 use Rattle.blake2_hash.specs.DigestLaws.{digest_length}
 use Rattle.store_laws.proofs.Every.{EveryWorld}
 use Rattle.store_laws.proofs.Rows.{IsValue, IsFound, FoundIn, found, said_written}
-use Rattle.store_laws.proofs.Covering.{IsSaid, CoversIn, CoversRow, covers}
+use Rattle.store_laws.proofs.Clean.{reached_clean, reached_gone}
+use Rattle.store_laws.proofs.Covering.{IsSaid, CoversIn, IsHere}
+use Rattle.store_laws.proofs.Gone.{IsPassed, IsCovering, value_covers}
 use Rattle.store_laws.proofs.Good.{IsGood}
 use Rattle.store_laws.proofs.Orders.{past_front, begins_front, within_front, at_parts, found_itself}
-use Rattle.store_laws.proofs.Reached.{reached_kept, reached_good, reached_window}
-use Rattle.cluster_machine.specs.Hashes.{NoClash as NoTrieClash}
-use Rattle.store_laws.proofs.Sound.{began, WasAcknowledged, HasKept, HasBefore, AreProper, HasFound, listed, HasRow, IsShown, HasShown, IsFreshEnd, IsSound}
+use Rattle.store_laws.proofs.Reached.{reached_good, reached_window}
+use Rattle.store_laws.proofs.Sound.{began, WasAcknowledged, HasKept, HasBefore, AreProper, HasFound, listed, HasRow, IsShown, HasShown, sights, IsExplained, IsFreshEnd, IsSound}
 use Rattle.store_laws.proofs.Values.{is_own, drew_here}
 use Rattle.machine_origins.specs.Windows.{IsWindow}
+use Rattle.store_laws.proofs.Deeds.{Deed, IsClear}
 
 -- ---- what is said of an object
 
@@ -118,7 +121,7 @@ passes (x ∷ xs) r t c = elim (cons_cases x xs r c) [
 
 -- ---- a window
 
-module _ {H : List ℕ → Type 0} where
+module _ {H : Deed → Type 0} where
   module _ (every : EveryWorld H) (s : State) (q : ℕ) (sound : IsSound H s) (bucket prefix : List ℕ) (shown_so_far : List ObjectRow) (others : List AnyRow) (end : Option (List ℕ)) (scan : Scan AnyRow)
       (read : Contains s.world.reads (scanned scan others end)) (position : scan.position ≡ (digest_of bucket).0) (prefix_is : scan.prefix ≡ prefix) (has : HasBefore s.history q scan.kept) (proper : AreProper scan.kept) where
     abbrev pub own : Name
@@ -141,19 +144,25 @@ module _ {H : List ℕ → Type 0} where
         let g = good row f.1 in
         record { is_of = g.0; table = parts.0; key = parts.1; is_proper = g.1 parts.0 }
 
-    object_of : (w : Version) (row : AnyRow) → CoversRow row w → (r : ObjectRow) × (row ≡ rows.Object r) × CoversIn r w
-    object_of w (rows.Object r) c = (r, refl, c)
-    object_of w (rows.Version r) c = absurd c
-    object_of w (rows.Ref r) c = absurd c
+    -- what the window has at a key
+    abbrev row_of_key : List ℕ → Option AnyRow
+    row_of_key key = find_row words 1 (row_key (listed own key)) others
 
-    -- what the window has at the key of an object that was kept before
-    at_key : NoTrieClash H → (key : List ℕ) (w : Version) → IsNamedKey (row_key (listed own key)) → HasKept scan.kept (listed own key) w → (r : ObjectRow) × (find_row words 1 (row_key (listed own key)) others ≡ Some (rows.Object r)) × CoversIn r w
+    here : (key : List ℕ) (row : AnyRow) → row_of_key key ≡ Some row → IsHere (row_key (listed own key)) row
+    here key row e = let value = known key row e in record { table = value.table; key_is = value.key; is_proper = value.is_proper }
+
+    -- what the window has at the key of an object that was kept before covers it, or a marker that was collected does
+    at_key : IsClear H → (key : List ℕ) (w : Version) → IsNamedKey (row_key (listed own key)) → HasKept scan.kept (listed own key) w →
+        IsCovering (row_of_key key) w ⊎ IsPassed s.draws s.world.collected (listed own key) (row_of_key key) w
     at_key clear key w named k =
         let name : Name = listed own key in
-        let over : IsOver any_join words (find_row words 1 (row_key name) others) (row_at any_join words scan.kept 1 (row_key name)) = reached_kept every s.world sound.reached clear (scanned scan others end) read (row_key name) named in
-        let c = covers name w k.block k.wish s.draws scan.kept (find_row words 1 (row_key name) others) proper k.is_there over (known key) in
-        let o = object_of w c.0 c.2 in
-        (o.0, c.1 ∙ ap Some o.1, o.2)
+        let g : GaveClean s.world.collected (scanned scan others end) = reached_clean every s.world sound.reached clear (scanned scan others end) read in
+        value_covers s.draws s.world.collected g.collected g.among g.marked (reached_gone every s.draws s.world sound.reached) name (row_of_key key)
+        (λ r u there marked same row e.
+        let value = here key row e in
+        let inside = (found_in (is_at words 1 (row_key name)) others row e).1 in
+        picked (IsNotBelow words object_versions (words.key r) u) others row (g.clean r u there marked) inside value.table (value.key_is ∙ sym same))
+        w k.block k.wish scan.kept proper k.is_there (here key) (g.kept (row_key name) named)
 
     -- a key with the prefix, past the start key, up to the window's end
     named_key : (key : List ℕ) → IsTrue (starts_with nat_eq key prefix) → is_lt (slice_cmp nat_cmp scan.after key) ≡ true → IsTrue (is_within end key) → IsNamedKey (row_key (listed own key))
@@ -175,6 +184,16 @@ module _ {H : List ℕ → Type 0} where
         let parts = key_parts (digest_of bucket) r.bucket (drop (length scan.position) (words.key (rows.Object r))) r.key (digest_length bucket) (block_length 32 r.bucket.0 ((good (rows.Object r) c).1 refl)) here in
         ap (λ (b : Hash32). b.0 ++ r.key) (sym parts.0)
 
+    -- the version that a row says is not below what the window's row at its key covers
+    above : (r : ObjectRow) → row_of_key r.key ≡ Some (rows.Object r) → (v : Version) → IsSaid v (said_by r) → (w : Version) →
+        IsCovering (row_of_key r.key) w ⊎ IsPassed s.draws s.world.collected (listed own r.key) (row_of_key r.key) w → ¬ Below v w
+    above r itself v is w (inl k) =
+        let rows_same : Some (rows.Object k.row) ≡ Some (rows.Object r) = sym k.value_is ∙ itself in
+        let same : k.row ≡ r = cc in
+        let c : CoversIn r w = subst (λ (x : ObjectRow). CoversIn x w) same k.covers in
+        subst (λ (u : Version). ¬ Below u w) (sym (said_one (said_by r) c.version v c.says is)) c.not_below
+    above r itself v is w (inr p) = p.not_below v (subst (λ (o : Option AnyRow). IsSaid v (said_of o)) (sym itself) is)
+
     -- a row that the window shows
     pub new_shown : (r : ObjectRow) → Contains (shown_rows others) r → IsShown H s.draws s.history q own r
     new_shown r c =
@@ -188,28 +207,22 @@ module _ {H : List ℕ → Type 0} where
           p.1,
           λ v is. record {
             found = said_found s.draws r name (said_by r) v p.1 is is_found;
-            not_below = λ clear before after n kind w cut ack.
-                let k = at_key clear r.key w named (has before after n kind own cut name w ack) in
-                let rows_same : Some (rows.Object k.0) ≡ Some (rows.Object r) = sym k.1 ∙ itself in
-                let same : k.0 ≡ r = cc in
-                let c : CoversIn r w = subst (λ (x : ObjectRow). CoversIn x w) same k.2 in
-                subst (λ (u : Version). ¬ Below u w) (sym (said_one (said_by r) c.version v c.says is)) c.not_below;
+            not_below = λ clear before after n kind w cut ack. above r itself v is w (at_key clear r.key w named (has before after n kind own cut name w ack));
           },
           said_written s.draws r (good (rows.Object r) there).0,
         )
 
-    module _ (so_far : HasShown H s.draws s.history s.saw q own shown_so_far (Some scan.after)) (seen : Contains s.saw (record { request = q; end = Window others end })) where
+    module _ (so_far : HasShown H s.draws s.history (sights s) q own shown_so_far (Some scan.after)) (seen : Contains s.saw (record { request = q; end = Window others end })) where
       abbrev shown_now : List ObjectRow
       shown_now = shown_so_far ++ shown_rows others
 
-      -- an object at a key that the window names
-      new_covers : NoTrieClash H → (key : List ℕ) (w : Version) → IsNamedKey (row_key (listed own key)) → HasKept scan.kept (listed own key) w → HasRow shown_now key ⊎ IsMarked s.saw q bucket key w
-      new_covers clear key w named k =
-          let at = at_key clear key w named k in
-          let r : ObjectRow = at.0 in
-          let c : CoversIn r w = at.2 in
-          let value = known key (rows.Object r) at.1 in
-          let there = (found_in (is_at words 1 (row_key (listed own key))) others (rows.Object r) at.1).1 in
+      -- a row at a key that the window names
+      row_covers : (key : List ℕ) (w : Version) → IsCovering (row_of_key key) w → HasRow shown_now key ⊎ IsMarked s.saw q bucket key w
+      row_covers key w at =
+          let r : ObjectRow = at.row in
+          let c : CoversIn r w = at.covers in
+          let value = known key (rows.Object r) at.value_is in
+          let there = (found_in (is_at words 1 (row_key (listed own key))) others (rows.Object r) at.value_is).1 in
           let parts = key_parts r.bucket (digest_of bucket) r.key key (block_length 32 r.bucket.0 value.is_proper) (digest_length bucket) value.key in
           elim (is_shown r) as (λ b. is_shown r ≡ b → HasRow shown_now key ⊎ IsMarked s.saw q bucket key w) [
             | true ↦ (λ t. inl (record { row = r; is_there = Contains-append_right shown_so_far (shown_rows others) r (passes (object_rows others) r t (in_objects others r there)); key_is = parts.1 }))
@@ -226,15 +239,22 @@ module _ {H : List ℕ → Type 0} where
             }))
           ] refl
 
+      -- an object at such a key
+      new_covers : IsClear H → (key : List ℕ) (w : Version) → IsNamedKey (row_key (listed own key)) → HasKept scan.kept (listed own key) w → HasRow shown_now key ⊎ IsExplained s.draws (sights s) q bucket key w
+      new_covers clear key w named k = elim (at_key clear key w named k) [
+        | inl at ↦ elim (row_covers key w at) [ inl has_row ↦ inl has_row | inr m ↦ inr (inl m) ]
+        | inr p ↦ inr (inr p.is_gone)
+      ]
+
       -- what the list has shown with this window
-      pub window_shown : HasShown H s.draws s.history s.saw q own shown_now end
+      pub window_shown : HasShown H s.draws s.history (sights s) q own shown_now end
       window_shown = record {
         shown = λ r c. elim (Contains-append_cases shown_so_far (shown_rows others) r c) [
           | inl old ↦ so_far.shown r old
           | inr new ↦ new_shown r new
         ];
         covers = λ clear before after n kind key w cut begins within ack.
-            elim (is_lt (slice_cmp nat_cmp scan.after key)) as (λ b. is_lt (slice_cmp nat_cmp scan.after key) ≡ b → HasRow shown_now key ⊎ IsMarked s.saw q bucket key w) [
+            elim (is_lt (slice_cmp nat_cmp scan.after key)) as (λ b. is_lt (slice_cmp nat_cmp scan.after key) ≡ b → HasRow shown_now key ⊎ IsExplained s.draws (sights s) q bucket key w) [
               | true ↦ (λ past. new_covers clear key w (named_key key begins past within) (has before after n kind own cut (listed own key) w ack))
               | false ↦ (λ low. elim (so_far.covers clear before after n kind key w cut begins (ap not low) ack) [
                 | inl h ↦ inl (record { row = h.row; is_there = Contains-append_left shown_so_far (shown_rows others) h.row h.is_there; key_is = h.key_is })
@@ -296,8 +316,8 @@ entry_of (x ∷ rs) r t c = elim (cons_cases x rs r c) [
 
 -- ---- a list that is done
 
-module _ {H : List ℕ → Type 0} where
-  module _ (s : State) (q : ℕ) (a : Asked) (at : numbered s.asked q ≡ Some a) (sound : IsSound H s) (lists : a.kind ≡ kind.List) (shown : List ObjectRow) (h : HasShown H s.draws s.history s.saw q a.name shown None) where
+module _ {H : Deed → Type 0} where
+  module _ (s : State) (q : ℕ) (a : Asked) (at : numbered s.asked q ≡ Some a) (sound : IsSound H s) (lists : a.kind ≡ kind.List) (shown : List ObjectRow) (h : HasShown H s.draws s.history (sights s) q a.name shown None) where
     -- a key that the list names begins with its prefix
     begins : (k : Kind) (m : Name) (key : List ℕ) → (a.kind ≡ k) × (a.name ≡ m) → IsTrue (names k m.key key) → IsTrue (starts_with nat_eq key a.name.key)
     begins k m key is named =
@@ -321,7 +341,7 @@ module _ {H : List ℕ → Type 0} where
               | inl has ↦
                   let e = entry_of shown has.row (h.shown has.row has.is_there).0 has.is_there in
                   absurd (no e.0 (subst (λ (k : List ℕ). Contains (versions_of (entries shown)) (k, e.0)) has.key_is e.1))
-              | inr m' ↦ subst (λ (x : Name). IsMarked s.saw q x.bucket key w) is.1 m'
+              | inr e ↦ subst (λ (x : Name). IsExplained s.draws (sights s) q x.bucket key w) is.1 e
             ];
           };
       written = λ clash n k m key v reading begun named shows.

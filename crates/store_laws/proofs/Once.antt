@@ -38,8 +38,8 @@ use Rattle.store_laws.proofs.Every.{EveryWorld}
 use Rattle.store_laws.proofs.Sound.{HasWished, IsStage, IsSound}
 use Rattle.store_laws.proofs.Starting.{start_sound}
 use Rattle.store_laws.proofs.Acts.{act_keeps}
-use Rattle.store_laws.specs.Hashed.{ActsHash}
 use Rattle.store_laws.proofs.Hashing.{fit_in}
+use Rattle.store_laws.proofs.Deeds.{Deed, ActsDo}
 
 -- a request that waits so has drawn this: for its stream, while the bytes of one come
 abbrev pub IsPast : Draw → Stage → Type 0
@@ -234,7 +234,7 @@ one_name d e (inl same) = ap (λ (x : Draw). x.name) same
 one_name d e (inr (inl filled)) = filled.name_is
 one_name d e (inr (inr filled)) = sym filled.name_is
 
-module _ {H : List ℕ → Type 0} where
+module _ {H : Deed → Type 0} where
   module _ (s : State) (q : ℕ) (a : Asked) (at : numbered s.asked q ≡ Some a) (sound : IsSound H s) (once : IsOnceIn s) where
     had_past : (flow : Flow) → a.flow ≡ Some flow → (d : Draw) → Contains s.draws d → d.request ≡ q → IsPast d flow.stage
     had_past flow is d c own = once.past d a flow c (ap (numbered s.asked) own ∙ at) is
@@ -294,7 +294,7 @@ module _ {H : List ℕ → Type 0} where
     asked_kept None at = once
     asked_kept (Some a) at = in_kept s q a at sound once a.flow refl
 
-module _ {H : List ℕ → Type 0} where
+module _ {H : Deed → Type 0} where
   -- a request more has drawn nothing
   opened_once : (s : State) (n : ℕ) (o : Order) → IsSound H s → IsOnceIn s → IsOnceIn (opens_request s n o).state
   opened_once s n o sound once = record {
@@ -333,15 +333,15 @@ module _ {H : List ℕ → Type 0} where
 pub start_once : IsOnceIn start
 start_once = record { one = λ d e c k same. absurd (none_in d c); past = λ d a f c there is. absurd (none_in d c) }
 
-module _ {H : List ℕ → Type 0} where
+module _ {H : Deed → Type 0} where
   module _ (every : EveryWorld H) where
-    pub acts_once : (s : State) (as' : List Act) → AreLawfulActs s as' → ActsFit s as' → ((x : List ℕ) → ActsHash s as' x → H x) → IsSound H s → IsOnceIn s → IsSound H (after_acts s as') × IsOnceIn (after_acts s as')
+    pub acts_once : (s : State) (as' : List Act) → AreLawfulActs s as' → ActsFit s as' → ((d : Deed) → ActsDo s as' d → H d) → IsSound H s → IsOnceIn s → IsSound H (after_acts s as') × IsOnceIn (after_acts s as')
     acts_once s [] lawful fit all sound once = (sound, once)
     acts_once s (a ∷ as') lawful fit all sound once =
         acts_once (acted s a).state as' lawful.1 fit.1 (λ x h. all x (inr h)) (act_keeps every s a lawful.0 (fit_in H s.world (acted s a).moves fit.0 (λ x h. all x (inl h))) sound) (act_once s a sound once)
 
     -- no two writes drew one version
-    pub draws_differ : (as' : List Act) → AreLawfulActs start as' → ActsFit start as' → ((x : List ℕ) → ActsHash start as' x → H x) → AreDrawnOnce (after_acts start as').draws
+    pub draws_differ : (as' : List Act) → AreLawfulActs start as' → ActsFit start as' → ((d : Deed) → ActsDo start as' d → H d) → AreDrawnOnce (after_acts start as').draws
     draws_differ as' lawful fit all d e c k same =
         let both = acts_once start as' lawful fit all start_sound start_once in
         both.1.one d e c k (sym (both.0.drawn d c).id_is ∙ (ap (λ (v : Version). v.id) same ∙ (both.0.drawn e k).id_is))

@@ -6,6 +6,7 @@ use Rattle.std.proofs.lemmas.Bool.{eqb-true}
 use Rattle.std.proofs.lemmas.List.{length_push}
 use Rattle.std.specs.List.{Contains}
 use Rattle.std.proofs.lemmas.List.Elements.{All-nil, Contains-append_left, Contains-push, Contains-push_cases}
+use Rattle.crdt_core.specs.Members.{Has}
 use Rattle.crdt_rows.specs.declared.any_row.AnyRow.{AnyRow}
 use Rattle.crdt_rows.specs.declared.version.Version.{Version}
 use Rattle.crdt_rows.specs.AnyRow.{any_join}
@@ -28,11 +29,12 @@ use Rattle.flow_model.specs.declared.flow.Name.{Name}
 use Rattle.store_model.specs.Run.{World, State, Asked, plainly}
 use Rattle.machine_origins.proofs.Places.{numbered_append, numbered_push_cases, numbered_last, numbered_within}
 use Rattle.store_laws.proofs.Good.{IsGood}
-use Rattle.store_laws.proofs.Sound.{StoresGood, began, IsTold, WasAcknowledged, HasAcknowledged, Drew, HasAnswered, AreProper, IsPresent, ArePresent, IsStage, IsSound}
+use Rattle.store_laws.proofs.Sound.{StoresGood, began, IsTold, WasAcknowledged, HasAcknowledged, Drew, HasAnswered, AreProper, IsPresent, ArePresent, IsStage, IsSound, sights}
 use Rattle.store_laws.proofs.Freshness.{fresh_later, fresh_told}
 use Rattle.store_laws.proofs.Grown.{IsNew, pushed_still, pushed_at, present_asked, present_told, stage_told, drawn_told, asked_told}
 use Rattle.store_laws.proofs.Reached.{reached_step}
-use Rattle.store_laws.proofs.Hashing.{HashesIn}
+use Rattle.store_laws.proofs.Hashing.{DoesIn}
+use Rattle.store_laws.proofs.Deeds.{Deed}
 
 -- the record that this request begins
 abbrev pub beginning : State → Asked → Record
@@ -46,7 +48,7 @@ opening s a = record s {
   history = s.history ++ beginning s a ∷ [];
 }
 
-module _ {H : List ℕ → Type 0} where
+module _ {H : Deed → Type 0} where
   -- the numbers of requests that were asked for are below the next
   next_new : (s : State) (a : Asked) → IsSound H s → IsNew s.asked (beginning s a)
   next_new s a sound q m k name o e h =
@@ -119,7 +121,7 @@ module _ {H : List ℕ → Type 0} where
       subst (λ (q : ℕ). Drew s.draws q version) old.1 (sound.answered name version old.0)
 
   pub opened_sound : (s : State) (a : Asked) (flow : Flow) → a.flow ≡ Some flow → flow.id ≡ suc (length s.world.requests) → IsStage H s.draws (s.history ++ beginning s a ∷ []) (suc (length s.world.requests)) a flow.stage → is_member_at layouts s.world a.node ≡ true →
-      Contains s.buckets a.name.bucket → (IsTrue (is_write a.kind) → 1 ≤ length a.name.key) → IsLawfulRun any_join words s.world (plainly (Open a.node) ∷ []) → HashesIn H s.world (plainly (Open a.node)) → IsSound H s → IsSound H (opening s a)
+      Contains s.buckets a.name.bucket → (IsTrue (is_write a.kind) → 1 ≤ length a.name.key) → IsLawfulRun any_join words s.world (plainly (Open a.node) ∷ []) → DoesIn H s.world (plainly (Open a.node)) → IsSound H s → IsSound H (opening s a)
   opened_sound s a flow flow_is id_is stage member bucket keyed lawful hashes sound =
       let q : ℕ = suc (length s.world.requests) in
       let n : ℕ = a.node in
@@ -131,23 +133,25 @@ module _ {H : List ℕ → Type 0} where
       let w : World = next any_join words s.world (plainly (Open n)) in
       let requests : w.requests ≡ s.world.requests ++ new ∷ [] = rw member refl in
       let kept_is : w.kept ≡ s.world.kept = rw member refl in
+      let collected_is : w.collected ≡ s.world.collected = rw member refl in
       let nodes_are : w.nodes ≡ changed (only n y) s.world.nodes = rw member refl in
-      let old : (m : ℕ) → ArePresent H asked s.draws history s.saw m (s.world.nodes m).calls = (λ m c h.
-      present_asked H s.asked asked s.draws history s.saw m c.request (pushed_at s.asked a m c.request) (pushed_still s.asked a m c.request) c.present
-      (present_told H s.asked s.draws s.history s.saw x (next_new s a sound) m c.request c.present (sound.presents m c h))) in
-      let here : ArePresent H asked s.draws history s.saw n y.calls = (λ c h. elim h [
-        | inl is ↦ subst (λ (d : Call AnyRow). IsPresent H asked s.draws history s.saw n d.request d.present) is (record { one = a; is_there = new_there s a sound; node_is = refl })
+      let old : (m : ℕ) → ArePresent H asked s.draws history (sights s) m (s.world.nodes m).calls = (λ m c h.
+      present_asked H s.asked asked s.draws history (sights s) m c.request (pushed_at s.asked a m c.request) (pushed_still s.asked a m c.request) c.present
+      (present_told H s.asked s.draws s.history (sights s) x (next_new s a sound) m c.request c.present (sound.presents m c h))) in
+      let here : ArePresent H asked s.draws history (sights s) n y.calls = (λ c h. elim h [
+        | inl is ↦ subst (λ (d : Call AnyRow). IsPresent H asked s.draws history (sights s) n d.request d.present) is (record { one = a; is_there = new_there s a sound; node_is = refl })
         | inr more ↦ old n c more
       ]) in
       record {
         reached = reached_step (StoresGood s.draws) s.world (plainly (Open n)) sound.reached lawful hashes (All-nil (IsGood s.draws)) (All-nil (IsGood s.draws));
         lengths = length_push s.asked a ∙ ap (λ (l : ℕ). l + 1) sound.lengths ∙ sym (length_push s.world.requests new) ∙ sym (ap (λ (rs : List Request). length rs) requests);
         told = opened_told s a bucket keyed sound;
-        presents = subst (λ (f : ℕ → Node AnyRow Layout). (m : ℕ) → ArePresent H asked s.draws history s.saw m (f m).calls) (sym nodes_are)
-            (λ m. elim (m == n) as (λ b. (m == n) ≡ b → ArePresent H asked s.draws history s.saw m (unwrap_or (cond b (Some y) None) (s.world.nodes m)).calls) [
-              | true ↦ (λ t. subst (λ k. ArePresent H asked s.draws history s.saw k y.calls) (sym (eqb-true m n t)) here)
+        presents = subst (λ (gone : List AnyRow). (m : ℕ) → ArePresent H asked s.draws history (record { saw = s.saw; collected = gone }) m (w.nodes m).calls) (sym collected_is)
+            (subst (λ (f : ℕ → Node AnyRow Layout). (m : ℕ) → ArePresent H asked s.draws history (sights s) m (f m).calls) (sym nodes_are)
+            (λ m. elim (m == n) as (λ b. (m == n) ≡ b → ArePresent H asked s.draws history (sights s) m (unwrap_or (cond b (Some y) None) (s.world.nodes m)).calls) [
+              | true ↦ (λ t. subst (λ k. ArePresent H asked s.draws history (sights s) k y.calls) (sym (eqb-true m n t)) here)
               | false ↦ (λ f. old m)
-            ] refl);
+            ] refl));
         stages = λ p o f at is. elim (numbered_push_cases s.asked a p o at) [
           | inl before ↦ let was = sound.stages p o f before is in (was.0, stage_told H s.asked s.draws s.history x (next_new s a sound) p o before f.stage was.1)
           | inr e ↦
@@ -161,5 +165,5 @@ module _ {H : List ℕ → Type 0} where
         answered = answered_before s a sound;
         seen = sound.seen;
         proper = subst AreProper (sym kept_is) sound.proper;
-        fresh = λ clear. fresh_later (record s { history = history }) (opening s a) refl (λ n c. c) (λ d c. c) (λ v c. c) (fresh_told s x sound clear (λ q answer e. cc));
+        fresh = λ clear. fresh_later (record s { history = history }) (opening s a) refl (λ n c. c) (λ d c. c) (λ v c. c) (λ r h. subst (λ (gone : List AnyRow). Has gone r) (sym collected_is) h) (fresh_told s x sound clear (λ q answer e. cc));
       }

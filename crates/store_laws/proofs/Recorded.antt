@@ -1,5 +1,5 @@
 -- Reads of a run are fresh by the records alone: whoever drew a version had begun before, and was acknowledged with no other.
-use Rattle.std.proofs.Common.{◌≡◌, ℕ, Some, List, sym, ap, ◌∙◌, subst, arith}
+use Rattle.std.proofs.Common.{◌≡◌, ℕ, Some, List, sym, ◌∙◌, subst, arith}
 use Rattle.std.specs.List.{Contains}
 use Rattle.crdt_rows.specs.declared.version.Version.{Version}
 use Rattle.history_model.specs.Record.{acknowledged}
@@ -13,10 +13,9 @@ use Rattle.store_laws.proofs.Sound.{IsSound}
 use Rattle.store_laws.proofs.Enders.{wish_writes}
 use Rattle.store_laws.proofs.Starting.{start_sound}
 use Rattle.store_laws.proofs.Once.{IsOnceIn, one_version, start_once, acts_once}
-use Rattle.cluster_machine.specs.Hashes.{NoClash as NoTrieClash}
-use Rattle.store_laws.specs.Hashed.{ActsHash}
+use Rattle.store_laws.proofs.Deeds.{Deed, IsClear, ActsDo}
 
-module _ {H : List ℕ → Type 0} where
+module _ {H : Deed → Type 0} where
   module _ (s : State) (sound : IsSound H s) (once : IsOnceIn s) where
     -- a request that drew a version is acknowledged with no other
     own_version : (d : Draw) (place end : ℕ) (v : Version) → Contains s.draws d → acknowledged s.history place d.request ≡ Some (end, v) → v ≡ d.version
@@ -63,7 +62,7 @@ module _ {H : List ℕ → Type 0} where
         }
 
     -- where no two buckets' names have one digest, the records are fresh
-    records_fresh : NoTrieClash H → NoClash s.buckets → Fresh s.history
+    records_fresh : IsClear H → NoClash s.buckets → Fresh s.history
     records_fresh clear clash i j kind bucket own answer r =
         let is = sound.fresh clear i j r.request kind bucket own answer (record { reads = r.reads; began = r.began; finished = r.finished }) in
         record {
@@ -75,7 +74,7 @@ module _ {H : List ℕ → Type 0} where
         }
 
   module _ (every : EveryWorld H) where
-    pub acts_recorded : (as' : List Act) → AreLawfulActs start as' → ActsFit start as' → ((x : List ℕ) → ActsHash start as' x → H x) → NoTrieClash H → NoClash (after_acts start as').buckets → Fresh (after_acts start as').history
+    pub acts_recorded : (as' : List Act) → AreLawfulActs start as' → ActsFit start as' → ((d : Deed) → ActsDo start as' d → H d) → IsClear H → NoClash (after_acts start as').buckets → Fresh (after_acts start as').history
     acts_recorded as' lawful fit all =
         let both = acts_once every start as' lawful fit all start_sound start_once in
         records_fresh (after_acts start as') both.0 both.1

@@ -53,7 +53,7 @@ use Rattle.store_laws.proofs.Every.{EveryWorld}
 use Rattle.store_laws.proofs.Going.{flow_of}
 use Rattle.store_laws.proofs.Listed.{new_shown}
 use Rattle.store_laws.proofs.Good.{IsGood}
-use Rattle.store_laws.proofs.Sound.{IsAimOf, ScansFor, IsStage, IsSound}
+use Rattle.store_laws.proofs.Sound.{IsAimOf, ScansFor, IsStage, IsSound, sights}
 use Rattle.store_laws.proofs.Rows.{IsInRow, IsInBlocks, SaysWritten}
 use Rattle.store_laws.proofs.Grown.{Rests}
 use Rattle.store_laws.proofs.Ends.{HasScanned, IsEnd}
@@ -65,8 +65,8 @@ use Rattle.store_model.proofs.Leads.{goes_on_leads}
 use Rattle.store_laws.proofs.Acts.{delivers_keeps, act_keeps}
 use Rattle.store_laws.proofs.Once.{draws_differ}
 use Rattle.store_laws.proofs.Telling.{Tells, Grows, tells_later, tells_none, tells_one, tells_both, step_tells}
-use Rattle.store_laws.specs.Hashed.{ActsHash}
 use Rattle.store_laws.proofs.Hashing.{FitIn, fit_in, in_parts}
+use Rattle.store_laws.proofs.Deeds.{Deed, ActsDo}
 
 -- ---- how requests end
 
@@ -194,24 +194,24 @@ module _ (draws : List Draw) where
 
 -- ---- a phase ended
 
-module _ {H : List ℕ → Type 0} where
+module _ {H : Deed → Type 0} where
   module _ (every : EveryWorld H) (s : State) (q : ℕ) (a : Asked) (at : numbered s.asked q ≡ Some a) (sound : IsSound H s) where
     -- each row that a list has with this window was written
     window_says : (flow : Flow) (bucket prefix : List ℕ) (rows : List ObjectRow) (others : List AnyRow) (reach : Option (List ℕ)) → a.flow ≡ Some flow → flow.stage ≡ Listing bucket prefix rows →
-        HasScanned H s.asked s.draws s.history s.saw s.world.reads q others reach → (r : ObjectRow) → Contains (rows ++ shown_rows others) r → SaysWritten s.draws (said_by r)
+        HasScanned H s.asked s.draws s.history (sights s) s.world.reads q others reach → (r : ObjectRow) → Contains (rows ++ shown_rows others) r → SaysWritten s.draws (said_by r)
     window_says flow bucket prefix rows others reach flow_is stage_is end r c =
         let w = end.is_scanning.waits in
         let some_is : Some w.one ≡ Some a = sym w.is_there ∙ at in
         let one_is : w.one ≡ a = cc in
         let flows : Some w.flow ≡ Some flow = sym w.flow_is ∙ (ap (λ (b : Asked). b.flow) one_is ∙ flow_is) in
         let same : w.flow ≡ flow = cc in
-        let scans : ScansFor H s.draws s.history s.saw q (Listing bucket prefix rows) end.scan = subst (λ (g : Stage). ScansFor H s.draws s.history s.saw q g end.scan) (ap (λ (f : Flow). f.stage) same ∙ stage_is) end.is_scanning.scans in
+        let scans : ScansFor H s.draws s.history (sights s) q (Listing bucket prefix rows) end.scan = subst (λ (g : Stage). ScansFor H s.draws s.history (sights s) q g end.scan) (ap (λ (f : Flow). f.stage) same ∙ stage_is) end.is_scanning.scans in
         elim (Contains-append_cases rows (shown_rows others) r c) [
           | inl old ↦ (scans.2.shown r old).2
           | inr new ↦ (new_shown every s q sound bucket prefix rows others reach end.scan end.is_there scans.0 scans.1 end.is_scanning.has end.is_scanning.proper r new).2
         ]
 
-    stage_says : (id block : ℕ) (stage : Stage) (end : PhaseEnd AnyRow) (now : ℕ) → a.flow ≡ Some (flow_of id block stage) → IsStage H s.draws s.history q a stage → IsEnd H s.asked s.draws s.history s.saw s.world.kept s.world.reads q end →
+    stage_says : (id block : ℕ) (stage : Stage) (end : PhaseEnd AnyRow) (now : ℕ) → a.flow ≡ Some (flow_of id block stage) → IsStage H s.draws s.history q a stage → IsEnd H s.asked s.draws s.history (sights s) s.world.kept s.world.reads q end →
         StepSays s.draws a.kind (flow_goes_on id block stage end now)
     stage_says id block (Drawing name w) (Answered value) now flow_is stage end = writes_says s.draws id block a name (drawn id value now) w
     stage_says id block (Uploading name v c stored) Kept now flow_is stage end = uploads_says s.draws id block a name v c stored
@@ -323,9 +323,9 @@ pub acts_grow : (s : State) (as' : List Act) → Grows s.draws (after_acts s as'
 acts_grow s [] = λ d c. c
 acts_grow s (a ∷ as') = λ d c. acts_grow (acted s a).state as' d (act_grows s a d c)
 
-module _ {H : List ℕ → Type 0} where
+module _ {H : Deed → Type 0} where
   module _ (every : EveryWorld H) where
-    follows_tell : (s : State) (q : ℕ) (a : Asked) → numbered s.asked q ≡ Some a → IsSound H s → (end : PhaseEnd AnyRow) (flow : Option Flow) → a.flow ≡ flow → IsEnd H s.asked s.draws s.history s.saw s.world.kept s.world.reads q end →
+    follows_tell : (s : State) (q : ℕ) (a : Asked) → numbered s.asked q ≡ Some a → IsSound H s → (end : PhaseEnd AnyRow) (flow : Option Flow) → a.flow ≡ flow → IsEnd H s.asked s.draws s.history (sights s) s.world.kept s.world.reads q end →
         HasTold (follows s q a end flow)
     follows_tell s q a at sound end None flow_is h = tells_none s.draws
     follows_tell s q a at sound end (Some flow) flow_is h =
@@ -333,12 +333,12 @@ module _ {H : List ℕ → Type 0} where
         let stage = sound.stages q a flow at flow_is in
         takes_tells (record s { saw = record { request = q; end = end } ∷ s.saw }) q a (draws_of s q flow.block flow.stage end now) (next flow end now) (stage_says every s q a at sound flow.id flow.block flow.stage end now flow_is stage.1 h)
 
-    follow_tells : (s : State) (q : ℕ) (asked : Option Asked) (end : PhaseEnd AnyRow) → numbered s.asked q ≡ asked → IsSound H s → IsEnd H s.asked s.draws s.history s.saw s.world.kept s.world.reads q end → HasTold (follow s q asked end)
+    follow_tells : (s : State) (q : ℕ) (asked : Option Asked) (end : PhaseEnd AnyRow) → numbered s.asked q ≡ asked → IsSound H s → IsEnd H s.asked s.draws s.history (sights s) s.world.kept s.world.reads q end → HasTold (follow s q asked end)
     follow_tells s q None end at sound h = tells_none s.draws
     follow_tells s q (Some a) end at sound h = follows_tell s q a at sound end a.flow refl h
 
     goes_on_tells : (s : State) (ends : List (Ended AnyRow)) → IsSound H s →
-        AllByRecursion (λ (e : Ended AnyRow). IsEnd H s.asked s.draws s.history s.saw s.world.kept s.world.reads e.request e.how × Rests s e.request) ends → HasTold (goes_on s ends)
+        AllByRecursion (λ (e : Ended AnyRow). IsEnd H s.asked s.draws s.history (sights s) s.world.kept s.world.reads e.request e.how × Rests s e.request) ends → HasTold (goes_on s ends)
     goes_on_tells s [] sound h = tells_none s.draws
     goes_on_tells s (e ∷ es) sound h = follow_tells s e.request (numbered s.asked e.request) e.how refl sound h.0.0
 
@@ -391,7 +391,7 @@ module _ {H : List ℕ → Type 0} where
     act_tells s (keeps q) fits sound = heard_tells (record s { draws = fills_at s q (numbered s.asked q) ++ s.draws }) q finished (numbered s.asked q)
     act_tells s (gives_up q) fits sound = heard_tells s q given_up (numbered s.asked q)
 
-    acts_tell : (s : State) (as' : List Act) → AreLawfulActs s as' → ActsFit s as' → ((x : List ℕ) → ActsHash s as' x → H x) → IsSound H s → Tells (after_acts s as').draws (lines_told s as')
+    acts_tell : (s : State) (as' : List Act) → AreLawfulActs s as' → ActsFit s as' → ((d : Deed) → ActsDo s as' d → H d) → IsSound H s → Tells (after_acts s as').draws (lines_told s as')
     acts_tell s [] lawful fit all sound = tells_none s.draws
     acts_tell s (a ∷ as') lawful fit all sound =
         let o : Outcome = acted s a in
@@ -400,5 +400,5 @@ module _ {H : List ℕ → Type 0} where
         tells_both end o.lines (lines_told o.state as') (tells_later o.state.draws end (acts_grow o.state as') o.lines (act_tells s a fits sound))
         (acts_tell o.state as' lawful.1 fit.1 (λ x h. all x (inr h)) (act_keeps every s a lawful.0 fits sound))
 
-    pub acts_written : (as' : List Act) → AreLawfulActs start as' → ActsFit start as' → ((x : List ℕ) → ActsHash start as' x → H x) → GivesWhatWasWritten as'
+    pub acts_written : (as' : List Act) → AreLawfulActs start as' → ActsFit start as' → ((d : Deed) → ActsDo start as' d → H d) → GivesWhatWasWritten as'
     acts_written as' lawful fit all = record { once = draws_differ every as' lawful fit all; lines = acts_tell start as' lawful fit all start_sound }

@@ -1,5 +1,5 @@
 -- The invariant of a state that acts lead to.
-use Rattle.std.specs.Prelude.{◌≡◌, ◌≤◌, ◌<◌, ◌⊎◌, ℕ, nat_eq, true, Option, IsTrue, List, ◌∷◌, [], ◌++◌, length, slice_get, Some, ⊤}
+use Rattle.std.specs.Prelude.{◌≡◌, ◌≤◌, ◌<◌, ◌⊎◌, ℕ, nat_eq, true, Option, IsTrue, List, ◌∷◌, [], ◌++◌, length, take, slice_get, Some, ⊤}
 use Rattle.std.specs.List.{All, AllByRecursion, Contains, starts_with}
 use Rattle.crdt_core.specs.Members.{Has}
 use Rattle.crdt_rows.specs.declared.version.Version.{Version}
@@ -11,7 +11,6 @@ use Rattle.object_schema.specs.Schema.{words}
 use Rattle.cluster_machine.specs.Node.{Question, Scan, Present, resting, asking, scanning, storing, fetching, Call}
 use Rattle.cluster_machine.specs.World.{empty, numbered}
 use Rattle.cluster_machine.specs.declared.step.Step.{Step}
-use Rattle.cluster_machine.specs.Hashes.{NoClash as NoTrieClash}
 use Rattle.machine_origins.specs.Origins.{stored_by}
 use Rattle.cluster_machine.specs.Worlds.{IsLawfulRun, IsLawfulStart, run, start as first_world}
 use Rattle.history_model.specs.declared.record.Kind.{Kind}
@@ -31,7 +30,7 @@ use Rattle.flow_model.specs.declared.flow.Stage.TheVariants.{Drawing, Uploading,
 use Rattle.flow_model.specs.declared.flow.Flow.{Flow}
 use Rattle.flow_model.specs.Rows.{row_key, complete}
 use Rattle.store_model.specs.Run.{World, Moving, Asked, Draw, Saw, State}
-use Rattle.store_model.specs.Fresh.{Gave, IsMarked, Covers, NoClash, IsFresh}
+use Rattle.store_model.specs.Fresh.{Gave, IsMarked, NoClash}
 use Rattle.history_model.specs.Fresh.{Below}
 use Rattle.store_laws.proofs.Alike.{IsAlike}
 use Rattle.store_laws.proofs.Hashes.{HasHash}
@@ -42,7 +41,10 @@ use Rattle.flow_model.specs.Says.{is_shown, said_by}
 use Rattle.blake2_hash.specs.Hash.{digest_of}
 use Rattle.crdt_rows.specs.declared.object_row.ObjectRow.{ObjectRow}
 use Rattle.store_laws.proofs.Good.{IsGood}
-use Rattle.store_laws.specs.Hashed.{StepsHash}
+use Rattle.store_laws.proofs.Deeds.{Deed, IsOfAny, IsClear, ArePromptIn, StepsDo}
+use Rattle.store_collects.specs.Fresh.{IsForgotten, IsFresh}
+use Rattle.store_collects.specs.Prompt.{ArePromptMoves}
+use Rattle.store_collects.proofs.Machine.{moments_then}
 
 -- the rows that this step begins to store are good
 abbrev pub StoresGood : List Draw → Step AnyRow → Type 0
@@ -54,8 +56,14 @@ pub record IsInstalled (begin : World) (before : List Moving) : Type 0 where
   pub lawful : IsLawfulStart any_join words before first
   pub is : begin ≡ first_world any_join words before first
 
--- the world is one that lawful steps lead to, from the empty one or from one in which a layout was installed, but that messages were forgotten; each of the steps is so, and what was hashed for walks is among these strings
-pub record IsReachedBy (H : List ℕ → Type 0) (IsSo : Step AnyRow → Type 0) (w : World) : Type 0 where
+-- these steps, from the empty world, and after them those from a world, are prompt, and so many requests have begun, at these moments
+pub record ArePromptSteps (all : List ℕ) (before : List Moving) (begin : World) (moves : List Moving) (requests : ℕ) : Type 0 where
+  pub first : ArePromptMoves [] empty before
+  pub rest : ArePromptMoves (moments_then [] empty before) begin moves
+  pub now : moments_then (moments_then [] empty before) begin moves ≡ take requests all
+
+-- the world is one that lawful steps lead to, from the empty one or from one in which a layout was installed, but that messages were forgotten; each of the steps is so, what they did is among these deeds, and where the steps among these are prompt, they are
+pub record IsReachedBy (H : Deed → Type 0) (IsSo : Step AnyRow → Type 0) (w : World) : Type 0 where
   pub before : List Moving
   pub begin : World
   pub begun : ((before ≡ []) × (begin ≡ empty)) ⊎ IsInstalled begin before
@@ -63,12 +71,13 @@ pub record IsReachedBy (H : List ℕ → Type 0) (IsSo : Step AnyRow → Type 0)
   pub lawful : IsLawfulRun any_join words begin moves
   pub alike : IsAlike w (run any_join words begin moves)
   pub before_are : All (λ (m : Moving). IsSo m.step) before
-  pub hashed_before : (x : List ℕ) → StepsHash empty before x → H x
-  pub hashed : (x : List ℕ) → StepsHash begin moves x → H x
+  pub done_before : (d : Deed) → IsOfAny d → StepsDo empty before d → H d
+  pub done : (d : Deed) → IsOfAny d → StepsDo begin moves d → H d
+  pub prompt : (all : List ℕ) → ArePromptIn H all → ArePromptSteps all before begin moves (length w.requests)
   pub are : All (λ (m : Moving). IsSo m.step) moves
 
 -- each row that the steps began to store is good
-abbrev pub IsReached : (List ℕ → Type 0) → List Draw → World → Type 0
+abbrev pub IsReached : (Deed → Type 0) → List Draw → World → Type 0
 IsReached H draws w = IsReachedBy H (StoresGood draws) w
 
 -- the record that a request began
@@ -197,6 +206,24 @@ abbrev pub HasBefore : List Record → ℕ → List AnyRow → Type 0
 HasBefore history q kept =
     (before after : List Record) (n : ℕ) (kind : Kind) (name : Name) → history ≡ before ++ began q n kind name ∷ after → HasAcknowledged kept before
 
+-- the phases that ended, and the rows that were collected
+pub record Sights : Type 0 where
+  pub saw : List Saw
+  pub collected : List AnyRow
+
+-- those of a state
+abbrev pub sights : State → Sights
+sights s = record { saw = s.saw; collected = s.world.collected }
+
+-- a collected row of the object has a delete marker that is not below w, which was drawn
+pub record IsGone (draws : List Draw) (collected : List AnyRow) (bucket key : List ℕ) (w : Version) : Type 0 where
+  pub forgotten : IsForgotten collected bucket key w
+  pub is_of : IsOf draws (rows.Object forgotten.row)
+
+-- that an object is not shown is explained: by a marker that request q read, or by one that was collected
+abbrev pub IsExplained : List Draw → Sights → ℕ → List ℕ → List ℕ → Version → Type 0
+IsExplained draws seen q bucket key w = IsMarked seen.saw q bucket key w ⊎ IsGone draws seen.collected bucket key w
+
 -- request q asks, and all that was acknowledged before it began was kept before its read phase began
 pub record IsAsking (asked : List Asked) (history : List Record) (n q : ℕ) (question : Question AnyRow) : Type 0 where
   pub waits : WaitsAt asked n q
@@ -216,11 +243,11 @@ pub record HasWished (draws : List Draw) (q : ℕ) (name : Name) (version : Vers
   pub moment : ℕ
   pub drawn : Contains draws (record { request = q; name = name; version = version; wish = w; block = block; moment = moment })
 
-module _ (H : List ℕ → Type 0) where
+module _ (H : Deed → Type 0) where
   -- this version of an object, which request q for `own` read, was drawn, and is not below what was acknowledged before the request began
   pub record HasFound (draws : List Draw) (history : List Record) (q : ℕ) (own name : Name) (version : Version) : Type 0 where
     pub found : FoundIn draws name version
-    pub not_below : NoTrieClash H → (before after : List Record) (n : ℕ) (kind : Kind) (w : Version) → history ≡ before ++ began q n kind own ∷ after → WasAcknowledged before name w → ¬ Below version w
+    pub not_below : IsClear H → (before after : List Record) (n : ℕ) (kind : Kind) (w : Version) → history ≡ before ++ began q n kind own ∷ after → WasAcknowledged before name w → ¬ Below version w
 
 -- the object of this key in the bucket that a list is for
 abbrev pub listed : Name → List ℕ → Name
@@ -232,39 +259,39 @@ pub record HasRow (rows : List ObjectRow) (key : List ℕ) : Type 0 where
   pub is_there : Contains rows row
   pub key_is : row.key ≡ key
 
-module _ (H : List ℕ → Type 0) where
+module _ (H : Deed → Type 0) where
   -- a row shows an object, whose version was found, and whose bytes were written
   abbrev pub IsShown : List Draw → List Record → ℕ → Name → ObjectRow → Type 0
   IsShown draws history q own r = (is_shown r ≡ true) × ((v : Version) → IsSaid v (said_by r) → HasFound H draws history q own (listed own r.key) v) × SaysWritten draws (said_by r)
 
-  -- the rows that a list has of keys up to here, or of all: each shows an object, and of each object that was acknowledged before the list began it has the row, or a marker explains that it has none
-  pub record HasShown (draws : List Draw) (history : List Record) (saw : List Saw) (q : ℕ) (own : Name) (rows : List ObjectRow) (reach : Option (List ℕ)) : Type 0 where
+  -- the rows that a list has of keys up to here, or of all: each shows an object, and of each object that was acknowledged before the list began it has the row, or it is explained that it has none
+  pub record HasShown (draws : List Draw) (history : List Record) (seen : Sights) (q : ℕ) (own : Name) (rows : List ObjectRow) (reach : Option (List ℕ)) : Type 0 where
     pub shown : (r : ObjectRow) → Contains rows r → IsShown draws history q own r
-    pub covers : NoTrieClash H → (before after : List Record) (n : ℕ) (kind : Kind) (key : List ℕ) (w : Version) → history ≡ before ++ began q n kind own ∷ after → IsTrue (starts_with nat_eq key own.key) →
-        IsTrue (is_within reach key) → WasAcknowledged before (listed own key) w → HasRow rows key ⊎ IsMarked saw q own.bucket key w
+    pub covers : IsClear H → (before after : List Record) (n : ℕ) (kind : Kind) (key : List ℕ) (w : Version) → history ≡ before ++ began q n kind own ∷ after → IsTrue (starts_with nat_eq key own.key) →
+        IsTrue (is_within reach key) → WasAcknowledged before (listed own key) w → HasRow rows key ⊎ IsExplained draws seen q own.bucket key w
 
   -- a list that waits so scans past the keys of which it has all
-  abbrev pub ScansFor : List Draw → List Record → List Saw → ℕ → Stage → Scan AnyRow → Type 0
-  ScansFor draws history saw q (Listing bucket prefix rows) scan =
-      (scan.position ≡ (digest_of bucket).0) × (scan.prefix ≡ prefix) × HasShown draws history saw q (record { bucket = bucket; key = prefix }) rows (Some scan.after)
-  ScansFor draws history saw q stage scan = ⊤
+  abbrev pub ScansFor : List Draw → List Record → Sights → ℕ → Stage → Scan AnyRow → Type 0
+  ScansFor draws history seen q (Listing bucket prefix rows) scan =
+      (scan.position ≡ (digest_of bucket).0) × (scan.prefix ≡ prefix) × HasShown draws history seen q (record { bucket = bucket; key = prefix }) rows (Some scan.after)
+  ScansFor draws history seen q stage scan = ⊤
 
   -- request q scans, and all that was acknowledged before it began was kept before its range phase began
-  pub record IsScanning (asked : List Asked) (draws : List Draw) (history : List Record) (saw : List Saw) (n q : ℕ) (scan : Scan AnyRow) : Type 0 where
+  pub record IsScanning (asked : List Asked) (draws : List Draw) (history : List Record) (seen : Sights) (n q : ℕ) (scan : Scan AnyRow) : Type 0 where
     pub waits : WaitsAt asked n q
-    pub scans : ScansFor draws history saw q waits.flow.stage scan
+    pub scans : ScansFor draws history seen q waits.flow.stage scan
     pub proper : AreProper scan.kept
     pub has : HasBefore history q scan.kept
 
-  abbrev pub IsPresent : List Asked → List Draw → List Record → List Saw → ℕ → ℕ → Present AnyRow → Type 0
-  IsPresent asked draws history saw n q resting = AskedAt asked n q
-  IsPresent asked draws history saw n q (asking question answers) = IsAsking asked history n q question
-  IsPresent asked draws history saw n q (scanning scan answers) = IsScanning asked draws history saw n q scan
-  IsPresent asked draws history saw n q (storing rows slots) = IsStoring asked draws n q rows
-  IsPresent asked draws history saw n q (fetching hash) = WaitsAt asked n q
+  abbrev pub IsPresent : List Asked → List Draw → List Record → Sights → ℕ → ℕ → Present AnyRow → Type 0
+  IsPresent asked draws history seen n q resting = AskedAt asked n q
+  IsPresent asked draws history seen n q (asking question answers) = IsAsking asked history n q question
+  IsPresent asked draws history seen n q (scanning scan answers) = IsScanning asked draws history seen n q scan
+  IsPresent asked draws history seen n q (storing rows slots) = IsStoring asked draws n q rows
+  IsPresent asked draws history seen n q (fetching hash) = WaitsAt asked n q
 
-  abbrev pub ArePresent : List Asked → List Draw → List Record → List Saw → ℕ → List (Call AnyRow) → Type 0
-  ArePresent asked draws history saw n calls = (c : Call AnyRow) → Has calls c → IsPresent asked draws history saw n c.request c.present
+  abbrev pub ArePresent : List Asked → List Draw → List Record → Sights → ℕ → List (Call AnyRow) → Type 0
+  ArePresent asked draws history seen n calls = (c : Call AnyRow) → Has calls c → IsPresent asked draws history seen n c.request c.present
 
 -- the version was drawn by now, by a put or copy of this object that had begun
 pub record DrewHere (s : State) (name : Name) (version : Version) : Type 0 where
@@ -281,11 +308,16 @@ pub record DrewHere (s : State) (name : Name) (version : Version) : Type 0 where
   pub in_time : place < draw.moment
   pub moment : draw.moment ≤ length s.history
 
-module _ (H : List ℕ → Type 0) where
+-- what request q shows of the key covers w
+pub record CoversNow (s : State) (q : ℕ) (own : Name) (answer : Answer) (key : List ℕ) (w : Version) : Type 0 where
+  pub versions : (v : Version) → Shows own.key answer key v → ¬ Below v w
+  pub none : ((v : Version) → ¬ Shows own.key answer key v) → IsExplained s.draws (sights s) q own.bucket key w
+
+module _ (H : Deed → Type 0) where
   -- what request q owes if it finishes now with this answer
   pub record IsFreshEnd (s : State) (q : ℕ) (answer : Answer) : Type 0 where
-    pub covers : NoTrieClash H → (before after : List Record) (n : ℕ) (kind : Kind) (name : Name) (key : List ℕ) (w : Version) → IsTrue (is_read kind) → s.history ≡ before ++ began q n kind name ∷ after →
-        IsTrue (names kind name.key key) → WasAcknowledged before (record { bucket = name.bucket; key = key }) w → Covers s.saw q name.bucket name.key answer key w
+    pub covers : IsClear H → (before after : List Record) (n : ℕ) (kind : Kind) (name : Name) (key : List ℕ) (w : Version) → IsTrue (is_read kind) → s.history ≡ before ++ began q n kind name ∷ after →
+        IsTrue (names kind name.key key) → WasAcknowledged before (record { bucket = name.bucket; key = key }) w → CoversNow s q name answer key w
     pub written : NoClash s.buckets → (n : ℕ) (kind : Kind) (name : Name) (key : List ℕ) (v : Version) → IsTrue (is_read kind) → Contains s.history (began q n kind name) →
         IsTrue (names kind name.key key) → Shows name.key answer key v → DrewHere s (record { bucket = name.bucket; key = key }) v
 
@@ -301,7 +333,7 @@ LooksAt a aim.Get name = name ≡ a.name
 LooksAt a aim.Head name = name ≡ a.name
 LooksAt a (aim.Copy new headers) name = ⊤
 
-module _ (H : List ℕ → Type 0) where
+module _ (H : Deed → Type 0) where
   -- a get has found this version of its object; a copy owes nothing for what it reads
   abbrev pub HasSeen : List Draw → List Record → ℕ → Asked → Aim → Version → Type 0
   HasSeen draws history q a aim.Get version = HasFound H draws history q a.name a.name version
@@ -330,11 +362,11 @@ module _ (H : List ℕ → Type 0) where
     pub reached : IsReached H s.draws s.world
     pub lengths : length s.asked ≡ length s.world.requests
     pub told : IsTold s.buckets s.asked s.history
-    pub presents : (n : ℕ) → ArePresent H s.asked s.draws s.history s.saw n (s.world.nodes n).calls
+    pub presents : (n : ℕ) → ArePresent H s.asked s.draws s.history (sights s) n (s.world.nodes n).calls
     pub stages : AreStages s.draws s.history s.asked
     pub drawn : (d : Draw) → Contains s.draws d → HasDrawn s.buckets s.history d
     pub acknowledged : HasAcknowledged s.world.kept s.history
     pub answered : HasAnswered s.draws s.history
     pub seen : SawDrawn s.draws s.saw
     pub proper : AreProper s.world.kept
-    pub fresh : NoTrieClash H → IsFresh s
+    pub fresh : IsClear H → IsFresh s

@@ -9,11 +9,12 @@ use Rattle.store_laws.proofs.Alike.{alike_same}
 use Rattle.store_laws.proofs.Reached.{reached_forgetting}
 use Rattle.store_laws.proofs.Sound.{IsSound}
 use Rattle.store_laws.proofs.Freshness.{fresh_later}
+use Rattle.store_laws.proofs.Deeds.{Deed}
 
-module _ {H : List ℕ → Type 0} where
+module _ {H : Deed → Type 0} where
   pub start_sound : IsSound H start
   start_sound = record {
-    reached = record { before = []; begin = empty; begun = inl (refl, refl); moves = []; lawful = tt; alike = alike_same empty; before_are = All-nil _; are = All-nil _; hashed_before = λ x h. absurd h; hashed = λ x h. absurd h };
+    reached = record { before = []; begin = empty; begun = inl (refl, refl); moves = []; lawful = tt; alike = alike_same empty; before_are = All-nil _; are = All-nil _; done_before = λ d any h. absurd h; done = λ d any h. absurd h; prompt = λ all are_prompt. record { first = tt; rest = tt; now = refl } };
     lengths = refl;
     told = record {
       began_asked = λ q n kind name c. absurd (none_in _ c);
@@ -62,7 +63,7 @@ module _ {H : List ℕ → Type 0} where
     answered = sound.answered;
     seen = sound.seen;
     proper = sound.proper;
-    fresh = λ clear. fresh_later s (record s { buckets = s.buckets ++ name ∷ [] }) refl (λ n c. Contains-append_left s.buckets (name ∷ []) n c) (λ d c. c) (λ x c. c) (sound.fresh clear);
+    fresh = λ clear. fresh_later s (record s { buckets = s.buckets ++ name ∷ [] }) refl (λ n c. Contains-append_left s.buckets (name ∷ []) n c) (λ d c. c) (λ x c. c) (λ r c. c) (sound.fresh clear);
   }
 
   pub block_sound : (s : State) (block : ℕ) → IsSound H s → IsSound H (record s { block = block })
@@ -77,7 +78,7 @@ module _ {H : List ℕ → Type 0} where
     answered = sound.answered;
     seen = sound.seen;
     proper = sound.proper;
-    fresh = λ clear. fresh_later s (record s { block = block }) refl (λ n c. c) (λ d c. c) (λ x c. c) (sound.fresh clear);
+    fresh = λ clear. fresh_later s (record s { block = block }) refl (λ n c. c) (λ d c. c) (λ x c. c) (λ r c. c) (sound.fresh clear);
   }
 
   pub ends_sound : (s : State) (ends : List (ℕ × FlowEnd)) → IsSound H s → IsSound H (record s { ends = ends })
@@ -92,7 +93,7 @@ module _ {H : List ℕ → Type 0} where
     answered = sound.answered;
     seen = sound.seen;
     proper = sound.proper;
-    fresh = λ clear. fresh_later s (record s { ends = ends }) refl (λ n c. c) (λ d c. c) (λ x c. c) (sound.fresh clear);
+    fresh = λ clear. fresh_later s (record s { ends = ends }) refl (λ n c. c) (λ d c. c) (λ x c. c) (λ r c. c) (sound.fresh clear);
   }
 
   pub forgetting_sound : (s : State) → IsSound H s → IsSound H (record s { world = forget_delivered s.world })
@@ -107,5 +108,5 @@ module _ {H : List ℕ → Type 0} where
     answered = sound.answered;
     seen = sound.seen;
     proper = sound.proper;
-    fresh = λ clear. fresh_later s (record s { world = forget_delivered s.world }) refl (λ n c. c) (λ d c. c) (λ x c. c) (sound.fresh clear);
+    fresh = λ clear. fresh_later s (record s { world = forget_delivered s.world }) refl (λ n c. c) (λ d c. c) (λ x c. c) (λ r c. c) (sound.fresh clear);
   }

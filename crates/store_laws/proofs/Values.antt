@@ -1,10 +1,11 @@
 -- What a read of an object's row gives: versions that writes drew, and none below what was acknowledged before.
-use Rattle.std.proofs.Common.{◌≡◌, ℕ, Option, Some, None, List, ◌∷◌, ◌++◌, refl, sym, ap, ◌∙◌, subst, arith}
+use Rattle.std.proofs.Common.{◌≡◌, ◌⊎◌, inl, inr, ℕ, Option, Some, None, List, ◌∷◌, ◌++◌, refl, sym, ap, ◌∙◌, subst, arith}
 use Rattle.std.specs.Prelude.{IsTrue}
 use Rattle.std.specs.List.{Contains}
 use Rattle.std.proofs.lemmas.List.Elements.{All-contains}
 use Rattle.blake2_hash.specs.declared.digest.Hash32.{Hash32}
 use Rattle.blake2_hash.specs.Hash.{digest_of}
+use Rattle.crdt_core.specs.Order.{option_join}
 use Rattle.crdt_rows.specs.declared.version.Version.{Version}
 use Rattle.crdt_rows.specs.declared.body.Meta.{Meta}
 use Rattle.crdt_rows.specs.declared.object_row.ObjectRow.{ObjectRow}
@@ -13,6 +14,9 @@ use Rattle.crdt_rows.specs.declared.any_row.AnyRow.TheVariants as rows
 use Rattle.crdt_rows.specs.AnyRow.{any_join}
 use Rattle.table_model.specs.Rows.{row_at}
 use Rattle.object_schema.specs.Schema.{words}
+use Rattle.object_collects.specs.Seen.{object_versions}
+use Rattle.collect_reads.specs.Clean.{GaveNotBelow}
+use Rattle.store_collects.proofs.Clean.{GaveClean}
 use Rattle.wire_messages.specs.declared.phase.PhaseEnd.{PhaseEnd}
 use Rattle.wire_messages.specs.declared.phase.PhaseEnd.TheVariants.{Row as Answered, Window, Kept, Block}
 use Rattle.cluster_machine.specs.Node.{read, scanned}
@@ -33,12 +37,14 @@ use Rattle.store_model.specs.Fresh.{Gave, NoClash}
 use Rattle.store_laws.proofs.Elements.{at_cut, only, none_in}
 use Rattle.store_laws.proofs.Every.{EveryWorld}
 use Rattle.store_laws.proofs.Rows.{IsOf, IsValue, IsFound, FoundIn, SaysWritten, found, value_written}
-use Rattle.store_laws.proofs.Covering.{IsSaid, CoversIn, CoversRow, covers}
+use Rattle.store_laws.proofs.Clean.{reached_clean, reached_gone}
+use Rattle.store_laws.proofs.Covering.{IsSaid, IsHere}
+use Rattle.store_laws.proofs.Gone.{IsPassed, IsCovering, value_covers}
 use Rattle.store_laws.proofs.Good.{IsGood}
-use Rattle.cluster_machine.specs.Hashes.{NoClash as NoTrieClash}
-use Rattle.store_laws.proofs.Sound.{began, IsWishOf, WasAcknowledged, HasKept, AsksRow, AsksFor, DrewHere, IsFreshEnd, HasFound, IsSound}
-use Rattle.store_laws.proofs.Reached.{reached_kept, reached_good}
+use Rattle.store_laws.proofs.Sound.{began, IsWishOf, WasAcknowledged, HasKept, AsksRow, AsksFor, DrewHere, IsGone, sights, CoversNow, IsFreshEnd, HasFound, IsSound}
+use Rattle.store_laws.proofs.Reached.{reached_good}
 use Rattle.store_laws.proofs.Ends.{HasRead, IsEnd}
+use Rattle.store_laws.proofs.Deeds.{Deed, IsClear}
 
 -- two names with equal parts
 pub one_name : (a b : Name) → a.bucket ≡ b.bucket → a.key ≡ b.key → a ≡ b
@@ -46,7 +52,7 @@ one_name a b bucket key = λ i. record { bucket = bucket i; key = key i }
 
 -- ---- what a request owes that shows a version
 
-module _ {H : List ℕ → Type 0} where
+module _ {H : Deed → Type 0} where
   module _ (s : State) (q : ℕ) (a : Asked) (at : numbered s.asked q ≡ Some a) (sound : IsSound H s) where
     -- the request that a record says began is this one
     pub is_own : (n : ℕ) (kind : Kind) (began_name : Name) → Contains s.history (began q n kind began_name) → (a.kind ≡ kind) × (a.name ≡ began_name)
@@ -115,7 +121,7 @@ says_row (Some (rows.Object r)) said e some = (r, refl, e)
 says_row (Some (rows.Version r)) said e some = absurd (some (sym e))
 says_row (Some (rows.Ref r)) said e some = absurd (some (sym e))
 
-module _ {H : List ℕ → Type 0} where
+module _ {H : Deed → Type 0} where
   module _ (every : EveryWorld H) (s : State) (q : ℕ) (sound : IsSound H s) (value : Option AnyRow) (h : HasRead s.asked s.history s.world.reads q value) where
     given : (row : AnyRow) → value ≡ Some row → HasGiven words (IsGood s.draws) (read h.question (Some row))
     given row e = reached_good every s.draws s.world sound.reached (read h.question (Some row)) (subst (λ v. Contains s.world.reads (read h.question v)) e h.is_there)
@@ -148,60 +154,74 @@ module _ {H : List ℕ → Type 0} where
       object_found : (r : ObjectRow) → value ≡ Some (rows.Object r) → IsFound s.draws r a.name (said_by r)
       object_found r e = let known = value_known (rows.Object r) e in found s.draws r a.name known.is_of known.key
 
-      by_kind : (w : Version) (row : AnyRow) → value ≡ Some row → CoversRow row w → (r : ObjectRow) × (value ≡ Some (rows.Object r)) × CoversIn r w
-      by_kind w (rows.Object r) e c = (r, e, c)
-      by_kind w (rows.Version r) e c = absurd c
-      by_kind w (rows.Ref r) e c = absurd c
+      value_here : (row : AnyRow) → value ≡ Some row → IsHere (row_key a.name) row
+      value_here row e = let known = value_known row e in record { table = known.table; key_is = known.key; is_proper = known.is_proper }
 
-      -- it is an object's row, which covers what was acknowledged before
-      covered : NoTrieClash H → (before after : List Record) (n : ℕ) (kind : Kind) (w : Version) → s.history ≡ before ++ began q n kind a.name ∷ after → WasAcknowledged before a.name w →
-          (r : ObjectRow) × (value ≡ Some (rows.Object r)) × CoversIn r w
+      -- it is an object's row, which covers what was acknowledged before, or a marker that was collected covers that
+      covered : IsClear H → (before after : List Record) (n : ℕ) (kind : Kind) (w : Version) → s.history ≡ before ++ began q n kind a.name ∷ after → WasAcknowledged before a.name w →
+          IsCovering value w ⊎ IsPassed s.draws s.world.collected a.name value w
       covered clear before after n kind w cut ack =
           let name : Name = a.name in
           let k : HasKept h.question.kept name w = h.is_asking.has before after n kind name cut name w ack in
-          let over : IsOver any_join words value (row_at any_join words h.question.kept h.question.table h.question.key) = reached_kept every s.world sound.reached clear (read h.question value) h.is_there in
-          let over_row : IsOver any_join words value (row_at any_join words h.question.kept 1 (row_key name)) =
-          subst (λ (i : List ℕ). IsOver any_join words value (row_at any_join words h.question.kept 1 i)) asked_row.1 (subst (λ (t : ℕ). IsOver any_join words value (row_at any_join words h.question.kept t h.question.key)) asked_row.0 over) in
-          let c = covers name w k.block k.wish s.draws h.question.kept value h.is_asking.proper k.is_there over_row value_known in
-          by_kind w c.0 c.1 c.2
+          let g : GaveClean s.world.collected (read h.question value) = reached_clean every s.world sound.reached clear (read h.question value) h.is_there in
+          let P : ℕ → List ℕ → Type 0 = λ t i. IsOver any_join words (option_join any_join (row_at any_join words g.collected t i) value) (row_at any_join words h.question.kept t i) in
+          let over : P 1 (row_key name) = subst (P 1) asked_row.1 (subst (λ (t : ℕ). P t h.question.key) asked_row.0 g.kept) in
+          value_covers s.draws s.world.collected g.collected g.among g.marked (reached_gone every s.draws s.world sound.reached) name value
+          (λ r u there marked same row e.
+          let here = value_here row e in
+          subst (λ (v : Option AnyRow). GaveNotBelow words object_versions (words.key r) u (read h.question v)) e (g.clean r u there marked) here.table (here.key_is ∙ sym same))
+          w k.block k.wish h.question.kept h.is_asking.proper k.is_there value_here over
 
       -- a version that is said was found, where a write drew it
-      has_found : (said : Said) (v : Version) → said_of value ≡ said → ((u : Version) → IsSaid u said → v ≡ u) → FoundIn s.draws a.name v → HasFound H s.draws s.history q a.name a.name v
-      has_found said v e one f = record {
+      has_found : (said : Said) (v : Version) → said_of value ≡ said → IsSaid v said → ((u : Version) → IsSaid u said → v ≡ u) → FoundIn s.draws a.name v → HasFound H s.draws s.history q a.name a.name v
+      has_found said v e own one f = record {
         found = f;
-        not_below = λ clear before after n kind w cut ack.
-            let c = covered clear before after n kind w cut ack in
-            let says : said_by c.0 ≡ said = sym (ap said_of c.1) ∙ e in
-            subst (λ (u : Version). ¬ Below u w) (sym (one c.2.version (subst (IsSaid c.2.version) says c.2.says))) c.2.not_below;
+        not_below = λ clear before after n kind w cut ack. elim (covered clear before after n kind w cut ack) [
+          | inl c ↦
+              let says : said_by c.row ≡ said = sym (ap said_of c.value_is) ∙ e in
+              subst (λ (u : Version). ¬ Below u w) (sym (one c.covers.version (subst (IsSaid c.covers.version) says c.covers.says))) c.covers.not_below
+          | inr p ↦ p.not_below v (subst (IsSaid v) (sym e) own)
+        ];
       }
 
       -- what the read found, in its row
       pub inline_found : (v : Version) (meta : Meta) (body : List ℕ) → said_of value ≡ inline v meta body → HasFound H s.draws s.history q a.name a.name v
       inline_found v meta body e =
           let row = says_row value (inline v meta body) e (λ no. cc) in
-          has_found (inline v meta body) v e (λ u is. is) (subst (IsFound s.draws row.0 a.name) row.2 (object_found row.0 row.1))
+          has_found (inline v meta body) v e refl (λ u is. is) (subst (IsFound s.draws row.0 a.name) row.2 (object_found row.0 row.1))
 
       -- or in blocks
       pub blocks_found : (v : Version) (meta : Meta) (first : List ℕ) → said_of value ≡ in_blocks v meta first → HasFound H s.draws s.history q a.name a.name v
       blocks_found v meta first e =
           let row = says_row value (in_blocks v meta first) e (λ no. cc) in
-          has_found (in_blocks v meta first) v e (λ u is. is) (subst (IsFound s.draws row.0 a.name) row.2 (object_found row.0 row.1))
+          has_found (in_blocks v meta first) v e refl (λ u is. is) (subst (IsFound s.draws row.0 a.name) row.2 (object_found row.0 row.1))
 
       module _ (own : (key : List ℕ) → IsTrue (names a.kind a.name.key key) → a.name.key ≡ key) where
+        -- a key that the request names is the object's
+        same_name : (before after : List Record) (n : ℕ) (kind : Kind) (m : Name) (key : List ℕ) → s.history ≡ before ++ began q n kind m ∷ after → IsTrue (names kind m.key key) → record { bucket = m.bucket; key = key } ≡ a.name
+        same_name before after n kind m key cut named = own_key s q a at sound own kind m key (is_own s q a at sound n kind m (at_cut s.history before after (began q n kind m) cut)) named
+
         -- what the row covers that was acknowledged of a key that the request names
-        covered_own : NoTrieClash H → (before after : List Record) (n : ℕ) (kind : Kind) (m : Name) (key : List ℕ) (w : Version) → s.history ≡ before ++ began q n kind m ∷ after → IsTrue (names kind m.key key) →
-            WasAcknowledged before (record { bucket = m.bucket; key = key }) w → (r : ObjectRow) × (value ≡ Some (rows.Object r)) × CoversIn r w
+        covered_own : IsClear H → (before after : List Record) (n : ℕ) (kind : Kind) (m : Name) (key : List ℕ) (w : Version) → s.history ≡ before ++ began q n kind m ∷ after → IsTrue (names kind m.key key) →
+            WasAcknowledged before (record { bucket = m.bucket; key = key }) w → IsCovering value w ⊎ IsPassed s.draws s.world.collected a.name value w
         covered_own clear before after n kind m key w cut named ack =
             let is = is_own s q a at sound n kind m (at_cut s.history before after (began q n kind m) cut) in
-            let same : record { bucket = m.bucket; key = key } ≡ a.name = own_key s q a at sound own kind m key is named in
-            covered clear before after n kind w (subst (λ (x : Name). s.history ≡ before ++ began q n kind x ∷ after) (sym is.1) cut) (subst (λ (x : Name). WasAcknowledged before x w) same ack)
+            covered clear before after n kind w (subst (λ (x : Name). s.history ≡ before ++ began q n kind x ∷ after) (sym is.1) cut) (subst (λ (x : Name). WasAcknowledged before x w) (same_name before after n kind m key cut named) ack)
 
-        -- where no version is said, nothing was acknowledged
+        -- a collected marker explains that there is no object
+        passed_none : (m : Name) (key : List ℕ) (w : Version) → record { bucket = m.bucket; key = key } ≡ a.name → IsPassed s.draws s.world.collected a.name value w → CoversNow s q m answer.None key w
+        passed_none m key w same p = record {
+          versions = λ u shows. absurd (none_in _ shows);
+          none = λ no. inr (subst (λ (x : Name). IsGone s.draws s.world.collected x.bucket x.key w) (sym same) p.is_gone);
+        }
+
+        -- where no version is said, nothing was acknowledged, or a collected marker is not below it
         pub none_end : said_of value ≡ none → IsFreshEnd H s q answer.None
         none_end e = record {
-          covers = λ clear before after n kind m key w reading cut named ack.
-              let c = covered_own clear before after n kind m key w cut named ack in
-              absurd (subst (IsSaid c.2.version) (sym (ap said_of c.1) ∙ e) c.2.says);
+          covers = λ clear before after n kind m key w reading cut named ack. elim (covered_own clear before after n kind m key w cut named ack) [
+            | inl c ↦ absurd (subst (IsSaid c.covers.version) (sym (ap said_of c.value_is) ∙ e) c.covers.says)
+            | inr p ↦ passed_none m key w (same_name before after n kind m key cut named) p
+          ];
           written = λ clash n kind m key v reading begins named shows. absurd (none_in _ shows);
         }
 
@@ -209,34 +229,36 @@ module _ {H : List ℕ → Type 0} where
         pub marked_end : (v : Version) → said_of value ≡ marked v → Contains s.saw (record { request = q; end = Answered value }) → IsFreshEnd H s q answer.None
         marked_end v e seen = record {
           covers = λ clear before after n kind m key w reading cut named ack.
-              let c = covered_own clear before after n kind m key w cut named ack in
-              let is = is_own s q a at sound n kind m (at_cut s.history before after (began q n kind m) cut) in
-              let same : record { bucket = m.bucket; key = key } ≡ a.name = own_key s q a at sound own kind m key is named in
-              let says : said_by c.0 ≡ marked v = sym (ap said_of c.1) ∙ e in
-              let version_is : v ≡ c.2.version = subst (IsSaid c.2.version) says c.2.says in
-              let object = subst (IsFound s.draws c.0 a.name) says (object_found c.0 c.1) in
-              record {
-                versions = λ u shows. absurd (none_in _ shows);
-                none = λ no. record {
-                  end = Answered value;
-                  was_seen = seen;
-                  row = c.0;
-                  gave = c.1;
-                  bucket_is = object.0 ∙ ap (λ (x : Name). digest_of x.bucket) (sym same);
-                  key_is = object.1 ∙ ap (λ (x : Name). x.key) (sym same);
-                  version = v;
-                  says = says;
-                  not_below = subst (λ (u : Version). ¬ Below u w) (sym version_is) c.2.not_below;
-                };
-              };
+              let same : record { bucket = m.bucket; key = key } ≡ a.name = same_name before after n kind m key cut named in
+              elim (covered_own clear before after n kind m key w cut named ack) [
+                | inl c ↦
+                    let says : said_by c.row ≡ marked v = sym (ap said_of c.value_is) ∙ e in
+                    let version_is : v ≡ c.covers.version = subst (IsSaid c.covers.version) says c.covers.says in
+                    let object = subst (IsFound s.draws c.row a.name) says (object_found c.row c.value_is) in
+                    record {
+                      versions = λ u shows. absurd (none_in _ shows);
+                      none = λ no. inl (record {
+                        end = Answered value;
+                        was_seen = seen;
+                        row = c.row;
+                        gave = c.value_is;
+                        bucket_is = object.0 ∙ ap (λ (x : Name). digest_of x.bucket) (sym same);
+                        key_is = object.1 ∙ ap (λ (x : Name). x.key) (sym same);
+                        version = v;
+                        says = says;
+                        not_below = subst (λ (u : Version). ¬ Below u w) (sym version_is) c.covers.not_below;
+                      });
+                    }
+                | inr p ↦ passed_none m key w same p
+              ];
           written = λ clash n kind m key v reading begins named shows. absurd (none_in _ shows);
         }
 
 -- ---- what a phase gave
 
-module _ {H : List ℕ → Type 0} where
+module _ {H : Deed → Type 0} where
   -- each version of an object's row that a phase gave was drawn
-  pub gave_drawn : (every : EveryWorld H) (s : State) (q : ℕ) → IsSound H s → (end : PhaseEnd AnyRow) → IsEnd H s.asked s.draws s.history s.saw s.world.kept s.world.reads q end → (r : ObjectRow) → Gave end (rows.Object r) → IsOf s.draws (rows.Object r)
+  pub gave_drawn : (every : EveryWorld H) (s : State) (q : ℕ) → IsSound H s → (end : PhaseEnd AnyRow) → IsEnd H s.asked s.draws s.history (sights s) s.world.kept s.world.reads q end → (r : ObjectRow) → Gave end (rows.Object r) → IsOf s.draws (rows.Object r)
   gave_drawn every s q sound (Answered value) h r gave = (given_good every s q sound value h (rows.Object r) gave).0
   gave_drawn every s q sound (Window others end) h r gave =
       (All-contains (IsGood s.draws) others (rows.Object r) (reached_good every s.draws s.world sound.reached (scanned h.scan others end) h.is_there) gave).0

@@ -4,7 +4,7 @@ use Rattle.cluster_machine.specs.declared.step.Step.TheVariants as step
 use Rattle.cluster_machine.specs.Choices.{Decision}
 use Rattle.flow_model.specs.declared.order.Order.TheVariants as order
 use Rattle.store_model.specs.declared.event.Event.{Event}
-use Rattle.store_model.specs.declared.event.Event.TheVariants.{Trio, Block, Bucket, Role, Redundancy, Apply, Tick, Skew, Put, Get, Head, Delete, Copy, List as Keys, Deliver, Lose, Drain, Expire, Restart, Gossip, Ack, Sync, SyncAck, Clean, Work, Repair}
+use Rattle.store_model.specs.declared.event.Event.TheVariants.{Trio, Block, Bucket, Role, Redundancy, Apply, Tick, Skew, Put, Get, Head, Delete, Copy, List as Keys, Deliver, Lose, Drain, Expire, Restart, Gossip, Ack, Sync, SyncAck, Clean, Work, Repair, Collect}
 use Rattle.store_model.specs.declared.event.Numbered.{Numbered}
 use Rattle.store_model.specs.Run.{State, Outcome, plainly}
 use Rattle.store_model.specs.Acts.{Act, moves, installs, asks, delivery, drain, forgets, adds, cuts, acted, after_acts}
@@ -42,6 +42,7 @@ act_of (SyncAck n) choice = moves (plainly (step.SyncAck n))
 act_of (Clean n) choice = moves (plainly (step.Clean n))
 act_of (Work n) choice = moves (plainly (step.Work n))
 act_of (Repair n) choice = moves (plainly (step.Repair n))
+act_of (Collect n) choice = moves (plainly (step.Collect n))
 
 -- what comes of an event
 abbrev pub outcome : State → Event → Decision → Outcome

@@ -96,6 +96,9 @@ pub enum Event {
     Work(u8),
     /// A node sends its rows to those that share their partitions with it.
     Repair(u8),
+    /// A node begins collections of old delete markers, goes on with those that are open, and closes those whose row or
+    /// whose layout has changed.
+    Collect(u8),
 }
 
 /// An event and the line of the schedule that spells it, counted from 1.

@@ -1,9 +1,9 @@
 -- Where an answer leads, by what its collection is.
 use Rattle.std.proofs.Common.{◌≡◌, ℕ, true, false, cond, Some, None, ap}
-use Rattle.table_gc.specs.declared.collection.Collection.{Collection}
-use Rattle.table_gc.specs.declared.collection.GcEnd.TheVariants.{Wait}
-use Rattle.table_gc.specs.Rounds.{is_closed}
-use Rattle.table_gc.specs.Collecting.{Open, numbered, end_of, end_at, answer_end, answered, closed, changed, told}
+use Rattle.gc_model.specs.declared.collection.Collection.{Collection}
+use Rattle.gc_model.specs.declared.collection.GcEnd.TheVariants.{Wait}
+use Rattle.gc_model.specs.Rounds.{is_closed}
+use Rattle.gc_model.specs.Collecting.{Open, numbered, end_of, end_at, answer_end, answered, closed, changed, told}
 
 pub end_found : (number round node newest : ℕ) (o : Open) (v : Collection) → numbered number o ≡ Some v → answer_end number round node newest o ≡ end_of round node newest v
 end_found number round node newest o v found = ap (end_at round node newest) found

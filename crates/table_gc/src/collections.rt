@@ -1,13 +1,16 @@
 //! The open collections.
-ghost use Rattle.std.specs.Prelude.{◌≡◌, ◌+◌, [], IsTrue, IfOk, IfErr, OnOk, OnErr, option_copied};
+ghost use Rattle.std.specs.Prelude.{◌≡◌, ◌+◌, [], Some, IsTrue, IfOk, IfErr, IfSome, OnOk, OnErr, option_copied};
 ghost use Rattle.crdt_core.specs.Outcomes.{OnlyWant};
-ghost use Rattle.table_gc.specs.Collecting.{IsNumbered, none_open, begun_with, keyed, numbered, missing_in, is_ready, in_second, changed, closed, answer_end, answered};
+ghost use Rattle.gc_model.specs.Collecting.{IsNumbered, none_open, begun_with, keyed, numbered, missing_in, is_ready, in_second, changed, closed, answer_end, answered};
 ghost use Rattle.numbered_list.specs.Numbers.{RefusesNumber};
 
-use crate::collection::{Collection, GcEnd};
+use crate::collection::{begin_second, end_of, is_closed, is_ready, missing, tell};
+use crate::keys::{Keys, add, first, remove};
 use crdt_core::{Bytes, List, Memory};
+use gc_model::{Collection, GcEnd};
 use numbered_list::place_of;
 use std::alloc::Global;
+use std::collections::BTreeMap;
 use std::marker::Model;
 
 /// The collections of a node that are open.
@@ -15,16 +18,18 @@ use std::marker::Model;
 pub struct Collections {
     begun: u64,
     list: List<Collection>,
+    keys: Keys,
 }
 
 impl Model for Collections {
-    ghost use Rattle.table_gc.specs.Collecting.{Open, IsNumbered};
+    ghost use Rattle.gc_model.specs.Collecting.{Open};
+    ghost use Rattle.table_gc.specs.Keys.{AreOpen};
 
     ghost Value = { Open };
 
     ghost view = { λ c. record { begun = c.begun; collections = c.list } };
 
-    ghost invariant = { λ c. IsNumbered c.begun c.list };
+    ghost invariant = { λ c. AreOpen c.begun c.list c.keys };
 }
 
 impl Collections {
@@ -34,7 +39,15 @@ impl Collections {
         Collections {
             begun: 0,
             list: List::new(alloc),
+            keys: BTreeMap::new(alloc),
         }
+    }
+
+    /// How many collections ever began, which is the number of the last one.
+    pub fn begun(&self) -> u64
+        ensures { result ≡ self.now.begun }
+    {
+        self.begun
     }
 
     /// Begins a collection of the row with this key and these bytes at the node `own`, whose newest layout version
@@ -50,9 +63,11 @@ impl Collections {
         }
         let number = self.begun + 1;
         let alloc = self.list.allocator();
+        let indexed = Vec::from_slice(alloc, key.as_slice())?;
         let mut first = List::new(alloc);
         first.push((own, newest))?;
         let again = List::new(alloc);
+        let count = self.list.len();
         self.list.push(Collection {
             number,
             key,
@@ -64,18 +79,33 @@ impl Collections {
             first,
             again,
         })?;
+        if let Err(fault) = add(alloc, &mut self.keys, indexed, number) {
+            self.list.truncate(count);
+            return Err(fault);
+        }
         self.begun = number;
         Ok(number)
     }
 
     /// The first open collection of the row with this key.
     pub fn of(&self, key: &[u8]) -> Option<&Collection>
-        ensures { option_copied result ≡ keyed key.now self.now }
+        ensures is { option_copied result ≡ keyed key.now self.now }
+        ensures numbered { IfSome result (λ c. numbered c.now.number self.now ≡ Some c.now) }
     {
-        self.list
-            .as_slice()
-            .iter()
-            .find(|collection| collection.key.as_slice() == key)
+        match first(&self.keys, key) {
+            Some(number) => self.numbered(number),
+            None => None,
+        }
+    }
+
+    /// The open collection with this number.
+    pub fn numbered(&self, number: u64) -> Option<&Collection>
+        ensures { option_copied result ≡ numbered number self.now }
+    {
+        match place_of(self.list.as_slice(), number) {
+            Some(i) => Some(self.list.at(i)),
+            None => None,
+        }
     }
 
     /// The open collections in order of their numbers.
@@ -93,7 +123,7 @@ impl Collections {
     {
         let alloc = self.list.allocator();
         match place_of(self.list.as_slice(), number) {
-            Some(i) => self.list.at(i).missing(alloc),
+            Some(i) => missing(self.list.at(i), alloc),
             None => Ok(Vec::new(alloc)),
         }
     }
@@ -104,7 +134,7 @@ impl Collections {
         ensures { result ≡ is_ready (numbered number self.now) }
     {
         match place_of(self.list.as_slice(), number) {
-            Some(i) => self.list.at(i).is_ready(),
+            Some(i) => is_ready(self.list.at(i)),
             None => false,
         }
     }
@@ -117,7 +147,7 @@ impl Collections {
         ensures want { OnlyWant result }
     {
         match place_of(self.list.as_slice(), number) {
-            Some(i) => self.list.at_mut(i).second(),
+            Some(i) => begin_second(self.list.at_mut(i)),
             None => Ok(()),
         }
     }
@@ -139,12 +169,13 @@ impl Collections {
     {
         match place_of(self.list.as_slice(), number) {
             Some(i) => {
-                let end = self.list.at(i).end_of(round, node, newest);
-                if end.is_closed() {
-                    let _ = self.list.remove(i);
+                let end = end_of(self.list.at(i), round, node, newest);
+                if is_closed(end) {
+                    let closed = self.list.remove(i);
+                    remove(&mut self.keys, closed.key.as_slice(), number);
                     return Ok(end);
                 }
-                self.list.at_mut(i).told(round, node, newest, now)?;
+                tell(self.list.at_mut(i), round, node, newest, now)?;
                 Ok(end)
             }
             None => Ok(GcEnd::Wait),
@@ -157,7 +188,8 @@ impl Collections {
     {
         match place_of(self.list.as_slice(), number) {
             Some(i) => {
-                let _ = self.list.remove(i);
+                let closed = self.list.remove(i);
+                remove(&mut self.keys, closed.key.as_slice(), number);
             }
             None => {}
         }
@@ -168,5 +200,6 @@ impl Collections {
         ensures { self.new ≡ record self.old { collections = [] } }
     {
         self.list.truncate(0);
+        self.keys.clear();
     }
 }

@@ -9,11 +9,12 @@
 //! `Collections` is the list of those that are open, numbered from 1 in the order in which they began. It knows
 //! neither rows nor messages: `begin` and `second` begin the rounds, `missing` says whom to ask, `tombed` takes the
 //! answers and says where they lead (`GcEnd`), and `close` ends a collection. Contracts see it as the record `Open` of
-//! specs/, and each call is one step of that. `begin`, `second`, `tombed` and `missing` take memory.
+//! gc_model, and each call is one step of that. A collection is found by its number by a binary search of the list, and
+//! by its row's key in an ordered map (src/keys.rt). `begin`, `second`, `tombed` and `missing` take memory.
 #![tactic(auto)]
 
 mod collection;
 mod collections;
+mod keys;
 
-pub use collection::{Collection, GcEnd};
 pub use collections::Collections;

@@ -1,11 +1,12 @@
 -- Lists of entries by keys: what a key finds, and what is known after one entry changes.
-use Rattle.std.specs.Prelude.{◌≡◌, ℕ, ◌+◌, ◌≤◌, ◌&&◌, ◌||◌, Bool, true, false, cond, not, is_some, List, [], ◌∷◌, Option, Some, None, Vec, length, refl}
-use Rattle.std.proofs.Common.{ap, sym, ◌∙◌, arith}
+use Rattle.std.specs.Prelude.{◌≡◌, ◌⊎◌, ℕ, ◌+◌, ◌≤◌, ◌&&◌, ◌||◌, Bool, true, false, cond, not, is_some, List, [], ◌∷◌, Option, Some, None, Vec, length, refl}
+use Rattle.std.proofs.Common.{ap, sym, ◌∙◌, arith, inl, inr}
 use Rattle.std.proofs.lemmas.List.{take_all}
 use Rattle.std.proofs.lemmas.Bool.{both_ways}
 use Rattle.std.proofs.lemmas.Cmp.{nat_list_cmp_total, tied_itself}
 use Rattle.std.specs.Cmp.{Equal-is}
 use Rattle.std.specs.BTreeSet.{insert_key}
+use Rattle.std.specs.Set.{remove_key}
 use Rattle.std.specs.Map.{keys_of, lookup, set_value, remove_entry}
 use Rattle.std.specs.BTreeMap.{insert_entry, is_at}
 use Rattle.std.specs.declared.cmp.Ordering.{Ordering}
@@ -109,7 +110,81 @@ module _ {Z X : Type 0} where
   lookup_set key old w [] found = cc
   lookup_set key old w (e ∷ es) found = here_by key old w e es (lookup_set key old w es) (at key e.0) refl found
 
+-- ---- an entry that goes
+
+module _ {Z X : Type 0} where
+  gone_by : (key other : List ℕ) (e : Vec ℕ Z × X) (es : List (Vec ℕ Z × X)) → is_eq (slice_cmp nat_cmp key other) ≡ false → lookup (at other) (remove_entry (at key) es) ≡ lookup (at other) es →
+      (b : Bool) → at key e.0 ≡ b → lookup (at other) (cond b es (e ∷ remove_entry (at key) es)) ≡ lookup (at other) (e ∷ es)
+  gone_by key other e es apart rest true h =
+      let one : key ≡ e.0.items = slice_identical nat_identical key e.0.items ((Equal-is _).0 h) in
+      let not : at other e.0 ≡ false = ap (λ q. is_eq (slice_cmp nat_cmp other q)) (sym one) ∙ eq_turn key other apart in
+      sym (ap (λ b. cond b (Some e.1) (lookup (at other) es)) not)
+  gone_by key other e es apart rest false h = ap (cond (at other e.0) (Some e.1)) rest
+
+  -- other keys find what they found
+  pub lookup_left : (key other : List ℕ) (es : List (Vec ℕ Z × X)) → is_eq (slice_cmp nat_cmp key other) ≡ false → lookup (at other) (remove_entry (at key) es) ≡ lookup (at other) es
+  lookup_left key other [] apart = refl
+  lookup_left key other (e ∷ es) apart = gone_by key other e es apart (lookup_left key other es apart) (at key e.0) refl
+
 -- ---- keys that wait
+
+-- a set of keys with one more
+or_false : (b : Bool) → (b || false) ≡ b
+or_false true = refl
+or_false false = refl
+
+or_turn : (a b : Bool) → (a || b) ≡ (b || a)
+or_turn true true = refl
+or_turn true false = refl
+or_turn false true = refl
+or_turn false false = refl
+
+or_again : (a b : Bool) → (a || b) ≡ ((a || b) || a)
+or_again true b = refl
+or_again false true = refl
+or_again false false = refl
+
+or_assoc : (a b c : Bool) → (a || (b || c)) ≡ ((a || b) || c)
+or_assoc true b c = refl
+or_assoc false b c = refl
+
+module _ {Z : Type 0} where
+  one_by : (other : List ℕ) (k x : Vec ℕ Z) (ks : List (Vec ℕ Z)) → has_key other (insert_key vec_cmp ks k) ≡ (has_key other ks || at other k) →
+      (o : Ordering) → vec_cmp k x ≡ o → has_key other (match_ordering o (k ∷ x ∷ ks) (x ∷ ks) (x ∷ insert_key vec_cmp ks k)) ≡ (has_key other (x ∷ ks) || at other k)
+  one_by other k x ks rest Less o = or_turn (at other k) (has_key other (x ∷ ks))
+  one_by other k x ks rest Equal o =
+      let one : k.items ≡ x.items = slice_identical nat_identical k.items x.items o in
+      or_again (at other x) (has_key other ks) ∙ ap (λ q. (has_key other (x ∷ ks)) || is_eq (slice_cmp nat_cmp other q)) (sym one)
+  one_by other k x ks rest Greater o = ap (λ b. at other x || b) rest ∙ or_assoc (at other x) (has_key other ks) (at other k)
+
+  -- a key is among them where it was, or is the new one
+  pub has_insert : (other : List ℕ) (k : Vec ℕ Z) (ks : List (Vec ℕ Z)) → has_key other (insert_key vec_cmp ks k) ≡ (has_key other ks || at other k)
+  has_insert other k [] = or_false (at other k)
+  has_insert other k (x ∷ ks) = one_by other k x ks (has_insert other k ks) (vec_cmp k x) refl
+
+  again_by : (key other : List ℕ) (ks : List (Vec ℕ Z)) → has_key key ks ≡ true → (b : Bool) → is_eq (slice_cmp nat_cmp other key) ≡ b → has_key other ks ≡ (has_key other ks || b)
+  again_by key other ks has true h =
+      let one : other ≡ key = slice_identical nat_identical other key ((Equal-is _).0 h) in
+      let there : has_key other ks ≡ true = ap (λ k. has_key k ks) one ∙ has in
+      there ∙ sym (or_true (has_key other ks))
+  again_by key other ks has false h = sym (or_false (has_key other ks))
+
+  -- a key that is there adds nothing
+  pub has_again : (key other : List ℕ) (ks : List (Vec ℕ Z)) → has_key key ks ≡ true → has_key other ks ≡ (has_key other ks || is_eq (slice_cmp nat_cmp other key))
+  has_again key other ks has = again_by key other ks has (is_eq (slice_cmp nat_cmp other key)) refl
+
+  -- without a key the others are there
+  less_by : (key other : List ℕ) (x : Vec ℕ Z) (ks : List (Vec ℕ Z)) → is_eq (slice_cmp nat_cmp key other) ≡ false → has_key other (remove_key (at key) ks) ≡ has_key other ks →
+      (b : Bool) → at key x ≡ b → has_key other (cond b ks (x ∷ remove_key (at key) ks)) ≡ has_key other (x ∷ ks)
+  less_by key other x ks apart rest true h =
+      let one : key ≡ x.items = slice_identical nat_identical key x.items ((Equal-is _).0 h) in
+      let not : at other x ≡ false = ap (λ q. is_eq (slice_cmp nat_cmp other q)) (sym one) ∙ eq_turn key other apart in
+      sym (ap (λ b. b || has_key other ks) not)
+  less_by key other x ks apart rest false h = ap (λ b. at other x || b) rest
+
+  pub has_left : (key other : List ℕ) (ks : List (Vec ℕ Z)) → is_eq (slice_cmp nat_cmp key other) ≡ false → has_key other (remove_key (at key) ks) ≡ has_key other ks
+  has_left key other [] apart = refl
+  has_left key other (x ∷ ks) apart = less_by key other x ks apart (has_left key other ks apart) (at key x) refl
 
 module _ {Z : Type 0} where
   rest_has : (other : List ℕ) (x : Vec ℕ Z) (ks ls : List (Vec ℕ Z)) → (has_key other ks ≡ true → has_key other ls ≡ true) → (b : Bool) → (b || has_key other ks) ≡ true → (b || has_key other ls) ≡ true
@@ -290,3 +365,37 @@ module _ (kh rh : List ℕ) (held : List Pair) (es : List Entry) (key : List ℕ
       let first : cond (test (kh, rh)) 1 0 ≡ one test (Some x) = ap (λ pair. cond (test pair) 1 0) (sym shows) in
       let whole = passing_more test (kh, rh) (removed kh held) in
       omega (arith, gone, counted, parts, out, all, after, first, whole)
+
+  -- the set without the pair is what is known after its key went
+  pub removed_same : (pair : Hash32 × Hash32) → lookup (at key) es ≡ Some (Some pair) → pair.0.0 ≡ kh → AreSame (removed kh held) (known_pairs (remove_entry (at key) es))
+  removed_same pair found is = λ test.
+      let known_is : (other : Hash32 × Hash32) → Some pair ≡ Some other → other.0.0 ≡ kh = λ other same. ap (λ p. p.0.0) (sym (some_is pair other same)) ∙ is in
+      let others = no_other (Some pair) found known_is (λ no. no_none no) in
+      let gone = counted_both (λ p. not (is_key kh p)) test held in
+      let counted = same (λ p. not (is_key kh p) && test p) in
+      let parts = count_rest (λ p. not (is_key kh p) && test p) key es (Some pair) found in
+      let out = old_out test (Some pair) known_is in
+      let all = all_other kh test (known_pairs (remove_entry (at key) es)) others in
+      omega (arith, gone, counted, parts, out, all)
+    where
+      no_none : {P : Type 0} → Some pair ≡ None → P
+      no_none h = cc
+
+-- where nothing is known of a key, what is known stays after it went
+none_goes : (key : List ℕ) (e : Entry) (es : List Entry) → ((lookup (at key) es ≡ None) ⊎ (lookup (at key) es ≡ Some None) → known_pairs (remove_entry (at key) es) ≡ known_pairs es) → (b : Bool) → at key e.0 ≡ b →
+    (cond b (Some e.1) (lookup (at key) es) ≡ None) ⊎ (cond b (Some e.1) (lookup (at key) es) ≡ Some None) → known_pairs (cond b es (e ∷ remove_entry (at key) es)) ≡ known_pairs (e ∷ es)
+none_goes key e es rest true h (inl none) = cc
+none_goes key e es rest true h (inr none) = let unknown : e.1 ≡ None = some_is e.1 None none in sym (unknown_first e es e.1 refl unknown)
+  where
+    unknown_first : (e : Entry) (es : List Entry) (o : Option (Hash32 × Hash32)) → e.1 ≡ o → o ≡ None → known_pairs (e ∷ es) ≡ known_pairs es
+    unknown_first e es None is none = rw is refl
+    unknown_first e es (Some pair) is none = cc
+none_goes key e es rest false h none = rest_first e.1 refl
+  where
+    rest_first : (o : Option (Hash32 × Hash32)) → e.1 ≡ o → known_pairs (e ∷ remove_entry (at key) es) ≡ known_pairs (e ∷ es)
+    rest_first None is = rw is (rest none)
+    rest_first (Some pair) is = rw is (ap (λ l. shown_pair pair ∷ l) (rest none))
+
+pub known_left : (key : List ℕ) (es : List Entry) → (lookup (at key) es ≡ None) ⊎ (lookup (at key) es ≡ Some None) → known_pairs (remove_entry (at key) es) ≡ known_pairs es
+known_left key [] none = refl
+known_left key (e ∷ es) none = none_goes key e es (known_left key es) (at key e.0) refl none

@@ -1,6 +1,9 @@
 pub mod Alike
 pub mod Entries
 pub mod Fitting
+pub mod Forgetting
+pub mod Marked
+pub mod Marking
 pub mod Partitions
 pub mod Putting
 pub mod Keys

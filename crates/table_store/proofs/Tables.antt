@@ -7,12 +7,14 @@ use Rattle.std.proofs.lemmas.List.Filters.{length-filter_both}
 use Rattle.std.proofs.lemmas.List.Elements.{All-nil, All-cons, All-head, All-tail, filter-append, filter_map-append}
 use Rattle.std.specs.declared.cmp.Ordering.{Ordering}
 use Rattle.std.specs.declared.cmp.Ordering.TheVariants.{Less, Equal, Greater}
-use Rattle.std.specs.Ordering.{nat_cmp, is_eq}
+use Rattle.std.specs.Ordering.{nat_cmp, is_eq, ordering_then}
+use Rattle.std.specs.Cmp.Lexicographic.{slice_cmp}
+use Rattle.std.proofs.lemmas.Cmp.{nat_cmp_total, tied_itself}
 use Rattle.table_schema.specs.Words.{Words, partition_of}
-use Rattle.table_model.specs.Rows.{row_cmp, place, is_at, merged_in, find_row, is_past, range, rows_in, without, live_blocks}
+use Rattle.table_model.specs.Rows.{row_cmp, place, place_cmp, is_at, merged_in, find_row, is_past, range, rows_in, without, live_blocks}
 use Rattle.table_model.proofs.RowLaws.{Above}
 use Rattle.table_store.specs.declared.shelf.Placed.{Placed}
-use Rattle.table_store.specs.Shelf.{shelf_rows, shelf_find, in_partition, is_after, window, IsPlaced, AllPlaced, IsSound}
+use Rattle.table_store.specs.Shelf.{shelf_rows, shelf_find, in_partition, is_after, window, IsPlaced, AllPlaced, IsSound, others_at}
 use Rattle.table_store.proofs.Shelves.{found_here, found_elsewhere, partition_here, partition_gone, past_here, past_elsewhere}
 
 -- ---- lists
@@ -137,6 +139,99 @@ module _ {R Z : Type 0} (s : Words R) (first second third : List (Vec ℕ Z × P
       ∙ (ap (λ l. live_blocks s a ++ l) (sym (filter_map-append s.live_block b c))
       ∙ (sym (filter_map-append s.live_block a (b ++ c))
       ∙ ap (live_blocks s) (sym (rows_three s first second third sound.in_first sound.in_second sound.in_third p))))
+
+-- ---- without the row of a table and key
+
+module _ {R : Type 0} (s : Words R) (n : ℕ) where
+  other_table : (m : ℕ) (key : List ℕ) (r : R) → is_eq (nat_cmp m n) ≡ false → s.table r ≡ n → is_at s m key r ≡ false
+  other_table m key r apart is = ap (λ t. is_eq (ordering_then (nat_cmp m t) (slice_cmp nat_cmp key (s.key r)))) is ∙ then_apart (nat_cmp m n) apart
+    where
+      then_apart : (o : Ordering) → is_eq o ≡ false → is_eq (ordering_then o (slice_cmp nat_cmp key (s.key r))) ≡ false
+      then_apart Less h = refl
+      then_apart Equal h = cc
+      then_apart Greater h = refl
+
+module _ {R Z : Type 0} (s : Words R) (n : ℕ) where
+  row_here : (key : List ℕ) (e : Vec ℕ Z × Placed R) → IsPlaced s n e → is_at s n key e.1.row ≡ is_eq (slice_cmp nat_cmp key e.0.items)
+  row_here key e placed = (λ i. is_eq (place_cmp (n, key) (placed.table_is i, sym placed.key_is i))) ∙ ap (λ o. is_eq (ordering_then o (slice_cmp nat_cmp key e.0.items))) (tied_itself nat_cmp_total n)
+
+  -- of the shelf of the table the row at the key goes
+  pub gone_here : (key : List ℕ) (es : List (Vec ℕ Z × Placed R)) → AllPlaced s n es → shelf_rows (filter (λ e. not (is_eq (slice_cmp nat_cmp key e.0.items))) es) ≡ filter (λ r. not (is_at s n key r)) (shelf_rows es)
+  gone_here key [] all = refl
+  gone_here key (e ∷ es) all =
+      let here = row_here key e (All-head (IsPlaced s n) e es all) in
+      let rest = gone_here key es (All-tail (IsPlaced s n) e es all) in
+      ap (λ b. shelf_rows (cond (not b) (e ∷ filter (λ d. not (is_eq (slice_cmp nat_cmp key d.0.items))) es) (filter (λ d. not (is_eq (slice_cmp nat_cmp key d.0.items))) es))) (sym here)
+      ∙ elim (is_at s n key e.1.row) as (λ b. shelf_rows (cond (not b) (e ∷ filter (λ d. not (is_eq (slice_cmp nat_cmp key d.0.items))) es) (filter (λ d. not (is_eq (slice_cmp nat_cmp key d.0.items))) es)) ≡ cond (not b) (e.1.row ∷ filter (λ r. not (is_at s n key r)) (shelf_rows es)) (filter (λ r. not (is_at s n key r)) (shelf_rows es))) [
+        | true ↦ rest
+        | false ↦ ap (λ l. e.1.row ∷ l) rest
+      ]
+
+  -- of the others none does
+  pub stay_elsewhere : (m : ℕ) (key : List ℕ) (es : List (Vec ℕ Z × Placed R)) → is_eq (nat_cmp m n) ≡ false → AllPlaced s n es → filter (λ r. not (is_at s m key r)) (shelf_rows es) ≡ shelf_rows es
+  stay_elsewhere m key [] apart all = refl
+  stay_elsewhere m key (e ∷ es) apart all =
+      let placed = All-head (IsPlaced s n) e es all in
+      ap (λ b. cond (not b) (e.1.row ∷ filter (λ r. not (is_at s m key r)) (shelf_rows es)) (filter (λ r. not (is_at s m key r)) (shelf_rows es))) (other_table s n m key e.1.row apart placed.table_is)
+      ∙ ap (λ l. e.1.row ∷ l) (stay_elsewhere m key es apart (All-tail (IsPlaced s n) e es all))
+
+  pub gone_placed : (key : List ℕ) (es : List (Vec ℕ Z × Placed R)) → AllPlaced s n es → AllPlaced s n (filter (λ e. not (is_eq (slice_cmp nat_cmp key e.0.items))) es)
+  gone_placed key [] all = All-nil (IsPlaced s n)
+  gone_placed key (e ∷ es) all =
+      let rest = gone_placed key es (All-tail (IsPlaced s n) e es all) in
+      elim (is_eq (slice_cmp nat_cmp key e.0.items)) as (λ b. AllPlaced s n (cond (not b) (e ∷ filter (λ d. not (is_eq (slice_cmp nat_cmp key d.0.items))) es) (filter (λ d. not (is_eq (slice_cmp nat_cmp key d.0.items))) es))) [
+        | true ↦ rest
+        | false ↦ All-cons (IsPlaced s n) e (filter (λ d. not (is_eq (slice_cmp nat_cmp key d.0.items))) es) (All-head (IsPlaced s n) e es all) rest
+      ]
+
+module _ {R Z : Type 0} (s : Words R) (key : List ℕ) (first second third : List (Vec ℕ Z × Placed R)) (sound : IsSound s first second third) where
+  pub rows_first : shelf_rows (others_at key first) ++ (shelf_rows second ++ shelf_rows third) ≡ filter (λ r. not (is_at s 1 key r)) (shelf_rows first ++ (shelf_rows second ++ shelf_rows third))
+  rows_first =
+      (λ i. gone_here s 1 key first sound.in_first i ++ (sym (stay_elsewhere s 2 1 key second refl sound.in_second) i ++ sym (stay_elsewhere s 3 1 key third refl sound.in_third) i))
+      ∙ sym (filter_three (λ r. not (is_at s 1 key r)) (shelf_rows first) (shelf_rows second) (shelf_rows third))
+
+  pub rows_second : shelf_rows first ++ (shelf_rows (others_at key second) ++ shelf_rows third) ≡ filter (λ r. not (is_at s 2 key r)) (shelf_rows first ++ (shelf_rows second ++ shelf_rows third))
+  rows_second =
+      (λ i. sym (stay_elsewhere s 1 2 key first refl sound.in_first) i ++ (gone_here s 2 key second sound.in_second i ++ sym (stay_elsewhere s 3 2 key third refl sound.in_third) i))
+      ∙ sym (filter_three (λ r. not (is_at s 2 key r)) (shelf_rows first) (shelf_rows second) (shelf_rows third))
+
+  pub rows_third : shelf_rows first ++ (shelf_rows second ++ shelf_rows (others_at key third)) ≡ filter (λ r. not (is_at s 3 key r)) (shelf_rows first ++ (shelf_rows second ++ shelf_rows third))
+  rows_third =
+      (λ i. sym (stay_elsewhere s 1 3 key first refl sound.in_first) i ++ (sym (stay_elsewhere s 2 3 key second refl sound.in_second) i ++ gone_here s 3 key third sound.in_third i))
+      ∙ sym (filter_three (λ r. not (is_at s 3 key r)) (shelf_rows first) (shelf_rows second) (shelf_rows third))
+
+  pub rows_none : (table : ℕ) → is_eq (nat_cmp table 1) ≡ false → is_eq (nat_cmp table 2) ≡ false → is_eq (nat_cmp table 3) ≡ false → shelf_rows first ++ (shelf_rows second ++ shelf_rows third) ≡ filter (λ r. not (is_at s table key r)) (shelf_rows first ++ (shelf_rows second ++ shelf_rows third))
+  rows_none table a b c =
+      (λ i. sym (stay_elsewhere s 1 table key first a sound.in_first) i ++ (sym (stay_elsewhere s 2 table key second b sound.in_second) i ++ sym (stay_elsewhere s 3 table key third c sound.in_third) i))
+      ∙ sym (filter_three (λ r. not (is_at s table key r)) (shelf_rows first) (shelf_rows second) (shelf_rows third))
+
+  fewer : (test : R → Bool) (rows new : List R) → new ≡ filter test rows → length rows < 2 ^ 64 → length new < 2 ^ 64
+  fewer test rows new is few = let le = length-filter_both test (λ r. not (test r)) (λ _. refl) rows in rw is (omega arith)
+
+  -- the invariant after a row went
+  pub sound_first_left : IsSound s (others_at key first) second third
+  sound_first_left = record {
+    in_first = gone_placed s 1 key first sound.in_first;
+    in_second = sound.in_second;
+    in_third = sound.in_third;
+    fits = fewer (λ r. not (is_at s 1 key r)) (shelf_rows first ++ (shelf_rows second ++ shelf_rows third)) (shelf_rows (others_at key first) ++ (shelf_rows second ++ shelf_rows third)) rows_first sound.fits;
+  }
+
+  pub sound_second_left : IsSound s first (others_at key second) third
+  sound_second_left = record {
+    in_first = sound.in_first;
+    in_second = gone_placed s 2 key second sound.in_second;
+    in_third = sound.in_third;
+    fits = fewer (λ r. not (is_at s 2 key r)) (shelf_rows first ++ (shelf_rows second ++ shelf_rows third)) (shelf_rows first ++ (shelf_rows (others_at key second) ++ shelf_rows third)) rows_second sound.fits;
+  }
+
+  pub sound_third_left : IsSound s first second (others_at key third)
+  sound_third_left = record {
+    in_first = sound.in_first;
+    in_second = sound.in_second;
+    in_third = gone_placed s 3 key third sound.in_third;
+    fits = fewer (λ r. not (is_at s 3 key r)) (shelf_rows first ++ (shelf_rows second ++ shelf_rows third)) (shelf_rows first ++ (shelf_rows second ++ shelf_rows (others_at key third))) rows_third sound.fits;
+  }
 
 -- ---- a row merged into one of three lists
 

@@ -83,3 +83,34 @@ pub record Grows (old : Option Part) (new : Part) : Type 0 where
   pub extends : Extends (entries_in old) new.pairs.entries
   pub waiting : (key : List ℕ) → waits_in key old ≡ true → waits key new ≡ true
   pub kept : IsKeptIn old → IsKept new.trie new.pairs.entries
+
+-- a partition whose trie alone took in what waited in it
+pub record Stays (old new : Part) : Type 0 where
+  pub pairs : new.pairs.entries ≡ old.pairs.entries
+  pub waiting : new.waiting.keys ≡ old.waiting.keys
+  pub kept : IsKept old.trie old.pairs.entries → IsKept new.trie new.pairs.entries
+
+-- a partition after a key was forgotten
+pub record Forgets (key : List ℕ) (old new : Part) : Type 0 where
+  pub keys : (other : List ℕ) → is_eq (slice_cmp nat_cmp key other) ≡ false → has_key other (keys_of new.pairs.entries) ≡ has_key other (keys_of old.pairs.entries)
+  pub pairs : (other : List ℕ) → is_eq (slice_cmp nat_cmp key other) ≡ false → pair_at other new.pairs.entries ≡ pair_at other old.pairs.entries
+  pub gone : pair_at key new.pairs.entries ≡ None
+  pub waiting : (other : List ℕ) → is_eq (slice_cmp nat_cmp key other) ≡ false → waits other new ≡ waits other old
+  pub kept : ((pair : Hash32 × Hash32) → pair_at key old.pairs.entries ≡ Some pair → pair.0.0 ≡ blake2b 32 key) → IsKept old.trie old.pairs.entries → IsKept new.trie new.pairs.entries
+
+-- what there is of a partition, if there is anything, after one of these
+abbrev pub Turns : (Part → Part → Type 0) → Option Part → Option Part → Type 0
+Turns After None new = new ≡ None
+Turns After (Some old) None = ⊥
+Turns After (Some old) (Some new) = After old new
+
+-- one of these was done to partition p, and nothing to the others
+pub record TurnsAt (After : Part → Part → Type 0) (p : ℕ) (old new : BTreeMap ℕ Part) : Type 0 where
+  pub here : Turns After (get nat_cmp old p) (get nat_cmp new p)
+  pub others : (q : ℕ) → is_eq (nat_cmp p q) ≡ false → get nat_cmp new q ≡ get nat_cmp old q
+
+abbrev pub ForgetsAt : ℕ → List ℕ → BTreeMap ℕ Part → BTreeMap ℕ Part → Type 0
+ForgetsAt p key = TurnsAt (Forgets key) p
+
+abbrev pub StaysAt : ℕ → BTreeMap ℕ Part → BTreeMap ℕ Part → Type 0
+StaysAt p = TurnsAt Stays p

@@ -1,7 +1,7 @@
 -- The rows of one table, by their keys.
-use Rattle.std.specs.Prelude.{◌≡◌, ℕ, ◌==◌, ◌<◌, ◌^◌, Bool, ◌&&◌, if◌then◌else◌, nat_eq, nat_lt, IsTrue, List, [], ◌∷◌, ◌++◌, Option, Some, None, All, length, map, take, Vec}
+use Rattle.std.specs.Prelude.{◌≡◌, ℕ, ◌==◌, ◌<◌, ◌^◌, Bool, not, ◌&&◌, if◌then◌else◌, nat_eq, nat_lt, IsTrue, List, [], ◌∷◌, ◌++◌, Option, Some, None, All, length, map, filter, take, Vec}
 use Rattle.std.specs.List.{starts_with}
-use Rattle.std.specs.Map.{lookup}
+use Rattle.std.specs.Map.{lookup, remove_entry}
 use Rattle.std.specs.BTreeMap.{BTreeMap, is_at}
 use Rattle.std.specs.Ordering.{nat_cmp, is_eq, is_lt}
 use Rattle.std.specs.declared.cmp.Ordering.{Ordering}
@@ -33,6 +33,14 @@ module _ {R Z : Type 0} where
   -- what stands at a key
   abbrev pub placed_at : List ℕ → List (Vec ℕ Z × Placed R) → Option (Placed R)
   placed_at key es = lookup (is_at (λ k. slice_cmp nat_cmp key k.items)) es
+
+  -- all but the row at a key
+  abbrev pub without_key : List ℕ → List (Vec ℕ Z × Placed R) → List (Vec ℕ Z × Placed R)
+  without_key key es = remove_entry (is_at (λ k. slice_cmp nat_cmp key k.items)) es
+
+  -- the same, by a test of each
+  abbrev pub others_at : List ℕ → List (Vec ℕ Z × Placed R) → List (Vec ℕ Z × Placed R)
+  others_at key es = filter (λ e. not (is_eq (slice_cmp nat_cmp key e.0.items))) es
 
   -- the row at a key, where it is in partition p
   abbrev pub row_in : ℕ → List ℕ → List (Vec ℕ Z × Placed R) → Option R

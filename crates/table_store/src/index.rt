@@ -1,18 +1,22 @@
 //! What one table has of each partition beside its rows: their keys, their trie, and which of them changed since.
-ghost use Rattle.std.specs.Prelude.{◌≡◌, ℕ, List, true, IsTrue, OnOk, None, Some};
+ghost use Rattle.std.specs.Prelude.{◌≡◌, ◌||◌, ℕ, List, true, IsTrue, OnOk, OnErr, None, Some};
+ghost use Rattle.std.specs.Cmp.Lexicographic.{slice_cmp};
 ghost use Rattle.std.specs.Map.{keys_of};
 ghost use Rattle.std.specs.BTreeMap.{get};
-ghost use Rattle.std.specs.Ordering.{nat_cmp};
+ghost use Rattle.std.specs.Ordering.{nat_cmp, is_eq};
 ghost use Rattle.crdt_core.specs.Outcomes.{OnlyWant};
 ghost use Rattle.blake2_hash.specs.Blake2b.{blake2b};
 ghost use Rattle.blake2_hash.specs.declared.digest.Hash32.{Hash32};
+ghost use Rattle.table_model.specs.Root.{Pair as Held};
+ghost use Rattle.walk_model.specs.Sets.{removed};
+ghost use Rattle.merkle_trie.specs.Keeping.{Keeps, IsUnchanged};
 ghost use Rattle.table_store.specs.declared.index.Part.{Part};
-ghost use Rattle.table_store.specs.Index.{has_key, keys_under, waits, waits_in, Extends, Grows};
+ghost use Rattle.table_store.specs.Index.{has_key, keys_under, pair_at, waits, waits_in, Extends, Grows, Forgets, Stays, ForgetsAt, StaysAt};
 
 use crate::root::Pair;
 use blake2_hash::{Hash32, blake2b_256};
 use crdt_core::Memory;
-use merkle_trie::Trie;
+use merkle_trie::{Blake, Trie};
 use std::alloc::Global;
 use std::collections::{BTreeMap, BTreeSet};
 
@@ -50,9 +54,44 @@ impl Part {
         ensures want { OnlyWant result }
     {
         add_key(alloc, &mut self.pairs, key)?;
-        add_waiting(alloc, &mut self.waiting, key)?;
+        add_to(alloc, &mut self.waiting, key)?;
         Ok(())
     }
+
+    // Forgets a key, whose pair leaves the trie. Where there is no room it is there as before.
+    fn forget(&mut self, key: &[u8]) -> Result<(), Memory>
+        ensures forgets { OnOk result (Forgets key.now self.old self.new) }
+        ensures stays { OnErr result (Stays self.old self.new) }
+        ensures want { OnlyWant result }
+    {
+        let mut hasher = Blake::new();
+        self.trie.settle(&mut hasher)?;
+        let pair = known(&self.pairs, key);
+        drop_pair(&mut self.trie, pair)?;
+        let _ = self.pairs.remove(key);
+        let _ = self.waiting.remove(key);
+        Ok(())
+    }
+}
+
+// Takes the pair of a row out of a trie, if it has one.
+fn drop_pair(trie: &mut Trie, pair: Option<Pair>) -> Result<(), Memory>
+    ensures removed { OnOk result ((known : Hash32 × Hash32) → pair ≡ Some known → (held : List Held) → Keeps (blake2b 32) trie.old held → Keeps (blake2b 32) trie.new (removed known.0.0 held)) }
+    ensures nothing { OnOk result (pair ≡ None → trie.new ≡ trie.old) }
+    ensures err { OnErr result (IsUnchanged trie.old trie.new) }
+    ensures want { OnlyWant result }
+{
+    match pair {
+        Some(pair) => trie.remove(&pair.0),
+        None => Ok(()),
+    }
+}
+
+// The pair that is known of the row at a key.
+fn known(pairs: &Pairs, key: &[u8]) -> Option<Pair>
+    ensures { result ≡ pair_at key.now pairs.now.entries }
+{
+    *pairs.get(key)?
 }
 
 // Adds a key, of whose row nothing is known, where it isn't there.
@@ -69,17 +108,18 @@ fn add_key(alloc: Global, pairs: &mut Pairs, key: &[u8]) -> Result<(), Memory>
     Ok(())
 }
 
-// Adds a key to those that wait, where it isn't there.
-fn add_waiting(alloc: Global, waiting: &mut BTreeSet<Vec<u8>>, key: &[u8]) -> Result<(), Memory>
-    ensures others { (other : List ℕ) → has_key other waiting.old.keys ≡ true → has_key other waiting.new.keys ≡ true }
-    ensures has { OnOk result (IsTrue (has_key key.now waiting.new.keys)) }
+/// Adds a key to others, where it isn't there.
+pub fn add_to(alloc: Global, keys: &mut BTreeSet<Vec<u8>>, key: &[u8]) -> Result<(), Memory>
+    ensures others { (other : List ℕ) → has_key other keys.old.keys ≡ true → has_key other keys.new.keys ≡ true }
+    ensures has { OnOk result (IsTrue (has_key key.now keys.new.keys)) }
+    ensures adds { OnOk result ((other : List ℕ) → has_key other keys.new.keys ≡ (has_key other keys.old.keys || is_eq (slice_cmp nat_cmp other key.now))) }
     ensures want { OnlyWant result }
 {
-    if waiting.contains(key) {
+    if keys.contains(key) {
         return Ok(());
     }
     let key = Vec::from_slice(alloc, key)?;
-    let _ = waiting.insert(key)?;
+    let _ = keys.insert(key)?;
     Ok(())
 }
 
@@ -99,6 +139,18 @@ pub fn note(alloc: Global, index: &mut Index, p: u8, key: &[u8]) -> Result<(), M
     part.note(alloc, key)?;
     let _ = index.insert(p, part)?;
     Ok(())
+}
+
+/// Forgets the key of a row of a partition. Where there is no room it is there as before.
+pub fn forget(index: &mut Index, p: u8, key: &[u8]) -> Result<(), Memory>
+    ensures forgets { OnOk result (ForgetsAt p key.now index.old index.new) }
+    ensures stays { OnErr result (StaysAt p index.old index.new) }
+    ensures want { OnlyWant result }
+{
+    match index.get_mut(&p) {
+        Some(part) => part.forget(key),
+        None => Ok(()),
+    }
 }
 
 /// The hash of a row's key, which the pair has that is known of the row.

@@ -12,11 +12,15 @@
 //! next to nothing where a partition has none. `take_in` takes one look-up where a row is there, whose partition it
 //! keeps, and notes in the index that the row changed.
 //!
+//! Of table 1 there is a second index (src/markers.rt): the keys of the rows that have nothing but a delete marker, by
+//! the markers' timestamps. So `add_marked` looks at no other rows.
+//!
 //! The tries are brought up to the rows when they are asked (src/settling.rt): by `settle`, and of one partition by
 //! `value`, `children` and `answer`. A row that changes many times between two such calls is hashed once.
 #![tactic(auto)]
 
 mod index;
+mod markers;
 mod noted;
 mod root;
 mod roots;

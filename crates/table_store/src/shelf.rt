@@ -1,5 +1,5 @@
 //! The rows of one table by their keys.
-ghost use Rattle.std.specs.Prelude.{◌≡◌, ℕ, ◌&&◌, ◌++◌, [], not, IsTrue, Some, is_some, IfOk, OnOk, OnErr, option_copied, option_map, map, filter, option_to_list};
+ghost use Rattle.std.specs.Prelude.{◌≡◌, ℕ, ◌&&◌, ◌++◌, [], true, not, IsTrue, Some, is_some, IfOk, OnOk, OnErr, option_copied, option_map, map, filter, option_to_list};
 ghost use Rattle.std.specs.List.{list_all};
 ghost use Rattle.std.specs.Option.{option_and_then};
 ghost use Rattle.std.specs.BTreeMap.{IsOrdered};
@@ -9,10 +9,12 @@ ghost use Rattle.std.specs.Global.{Vec};
 ghost use Rattle.std.specs.Map.{keys_of};
 ghost use Rattle.table_schema.specs.Words.{Words};
 ghost use Rattle.table_store.specs.Index.{has_key};
-ghost use Rattle.table_store.specs.Shelf.{shelf_rows, AllPlaced, shelf_find, in_partition, row_in, has_key_of, is_indexed, vec_cmp};
+ghost use Rattle.table_store.specs.Shelf.{shelf_rows, AllPlaced, shelf_find, in_partition, row_in, has_key_of, is_indexed, vec_cmp, others_at, without_key};
 ghost use Rattle.table_store.specs.Settled.{AllFit};
+ghost use Rattle.table_store.specs.Markers.{AllMarked, AllStay, OthersStay, marked_at};
 
-use crate::index::{Index, Pairs, note};
+use crate::index::{Index, Pairs, forget, note};
+use crate::markers::{Markers, change_marker, unmark};
 use blake2_hash::Hash32;
 use crdt_core::{Crdt, List, Memory};
 use std::alloc::Global;
@@ -30,12 +32,13 @@ pub struct Placed<R> {
 /// Rows by their keys.
 pub type Rows<R> = BTreeMap<Vec<u8>, Placed<R>>;
 
-/// The rows of one table number by their keys, and what there is of each partition: these keys, their trie, and which of
-/// them changed since.
+/// The rows of one table number by their keys, what there is of each partition: these keys, their trie, and which of
+/// them changed since; and the keys of the rows with nothing but a delete marker.
 #[derive(Drop)]
 pub struct Shelf<R> {
     pub rows: Rows<R>,
     pub index: Index,
+    pub markers: Markers,
     // The index has each row's key under its partition. A key under which no row of the partition stands does no harm.
     ghost indexed: { IsTrue (list_all (is_indexed index) rows.entries) },
 }
@@ -45,10 +48,12 @@ impl<R> Shelf<R> {
     pub fn new(alloc: Global) -> Shelf<R>
         ensures rows { result.rows.entries ≡ [] }
         ensures fits { (s : Words R) → AllFit s result.index result.rows.entries }
+        ensures marked { (s : Words R) → AllMarked s result.markers result.rows.entries }
     {
         Shelf {
             rows: BTreeMap::new(alloc),
             index: BTreeMap::new(alloc),
+            markers: BTreeMap::new(alloc),
         }
     }
 }
@@ -74,12 +79,17 @@ fn merge_at<S: Schema>(
     alloc: Global,
     there: &mut Placed<S::Row>,
     row: S::Row,
+    key: &[u8],
+    markers: &mut Markers,
 ) -> Result<Taken<S::Row>, Memory>
     ensures row { OnOk result (there.new.row ≡ S.Row.join there.old.row row) }
     ensures partition { there.new.partition ≡ there.old.partition }
     ensures before { IfOk result (λ taken. option_map (λ h. h.0) taken.before ≡ S.words.live_block there.old.row) }
     ensures change { IfOk result (λ taken. taken.change ≡ change_of S.Row.join S.words (Some there.old.row) row) }
+    ensures marked { OnOk result ((version : ℕ × ℕ) → S.words.marker there.new.row ≡ Some version → marked_at version.0 key.now markers.new ≡ true) }
+    ensures others { OthersStay key.now markers.old markers.new }
     ensures unchanged { OnErr result (there.new ≡ there.old) }
+    ensures stay { OnErr result (AllStay markers.old markers.new) }
     ensures want { OnlyWant result }
 {
     let mut merged = row;
@@ -91,6 +101,8 @@ fn merge_at<S: Schema>(
         was_live: before.is_some(),
         is_live: S::live_block(&merged).is_some(),
     };
+    let (old, new) = (S::marker(&there.row), S::marker(&merged));
+    change_marker(alloc, markers, key, old, new)?;
     there.row = merged;
     Ok(Taken { before, change })
 }
@@ -106,13 +118,15 @@ pub fn take_into<S: Schema>(
     ensures before { IfOk result (λ taken. option_map (λ h. h.0) taken.before ≡ option_and_then S.words.live_block (shelf_find (S.words.key row) shelf.old.rows.entries)) }
     ensures change { IfOk result (λ taken. taken.change ≡ change_of S.Row.join S.words (shelf_find (S.words.key row) shelf.old.rows.entries) row) }
     ensures fits { AllFit S.words shelf.old.index shelf.old.rows.entries → AllFit S.words shelf.new.index shelf.new.rows.entries }
+    ensures marked { AllMarked S.words shelf.old.markers shelf.old.rows.entries → AllMarked S.words shelf.new.markers shelf.new.rows.entries }
     ensures unchanged { OnErr result (shelf.new.rows.entries ≡ shelf.old.rows.entries) }
     ensures want { OnlyWant result }
 {
     let key = S::key(alloc, &row)?.into_vec();
     if let Some(there) = shelf.rows.get_mut(key.as_slice()) {
         note(alloc, &mut shelf.index, there.partition, key.as_slice())?;
-        let taken = merge_at::<S>(alloc, there, row)?;
+        let markers = &mut shelf.markers;
+        let taken = merge_at::<S>(alloc, there, row, key.as_slice(), markers)?;
         return Ok(taken);
     }
     let placed = Placed {
@@ -125,6 +139,8 @@ pub fn take_into<S: Schema>(
         is_live: S::live_block(&placed.row).is_some(),
     };
     note(alloc, &mut shelf.index, placed.partition, key.as_slice())?;
+    let new = S::marker(&placed.row);
+    change_marker(alloc, &mut shelf.markers, key.as_slice(), None, new)?;
     shelf.rows.insert(key, placed)?;
     Ok(Taken {
         before: None,
@@ -211,35 +227,79 @@ fn push_block<S: Schema>(row: &S::Row, hashes: &mut Vec<Hash32>) -> Result<(), M
 }
 
 /// Drops a partition's rows, and its trie.
-pub fn drop_rows<R: Drop>(shelf: &mut Shelf<R>, p: u8)
+pub fn drop_rows<S: Schema>(shelf: &mut Shelf<S::Row>, p: u8)
     ensures rows { shelf.new.rows.entries ≡ filter (λ e. not (in_partition p e)) shelf.old.rows.entries }
-    ensures fits { (s : Words R) → AllFit s shelf.old.index shelf.old.rows.entries → AllFit s shelf.new.index shelf.new.rows.entries }
+    ensures fits { (s : Words S.Row) → AllFit s shelf.old.index shelf.old.rows.entries → AllFit s shelf.new.index shelf.new.rows.entries }
+    ensures marked { AllMarked S.words shelf.old.markers shelf.old.rows.entries → AllMarked S.words shelf.new.markers shelf.new.rows.entries }
 {
     are_in_order(&shelf.rows);
     match shelf.index.get(&p) {
         None => {}
         Some(part) => {
-            drop_keys(&mut shelf.rows, p, &part.pairs);
+            drop_keys::<S>(&mut shelf.rows, &mut shelf.markers, p, &part.pairs);
             let _ = shelf.index.remove(&p);
         }
     }
 }
 
 // Drops the rows at these keys that are in this partition.
-fn drop_keys<R: Drop>(rows: &mut Rows<R>, p: u8, pairs: &Pairs)
-    ensures { rows.new.entries ≡ filter (λ e. not (in_partition p e && has_key e.0.items (keys_of pairs.now.entries))) rows.old.entries }
+fn drop_keys<S: Schema>(rows: &mut Rows<S::Row>, markers: &mut Markers, p: u8, pairs: &Pairs)
+    ensures rows { rows.new.entries ≡ filter (λ e. not (in_partition p e && has_key e.0.items (keys_of pairs.now.entries))) rows.old.entries }
+    ensures marked { AllMarked S.words markers.old rows.old.entries → AllMarked S.words markers.new rows.new.entries }
 {
     for (key, _) in pairs {
-        drop_row(rows, p, key);
+        drop_row::<S>(rows, markers, p, key);
     }
 }
 
 // Drops the row at a key, where it is in this partition.
-fn drop_row<R: Drop>(rows: &mut Rows<R>, p: u8, key: &Vec<u8>)
-    ensures { rows.new.entries ≡ filter (λ e. not (in_partition p e && has_key_of key.now e)) rows.old.entries }
+fn drop_row<S: Schema>(rows: &mut Rows<S::Row>, markers: &mut Markers, p: u8, key: &Vec<u8>)
+    ensures rows { rows.new.entries ≡ filter (λ e. not (in_partition p e && has_key_of key.now e)) rows.old.entries }
+    ensures marked { AllMarked S.words markers.old rows.old.entries → AllMarked S.words markers.new rows.new.entries }
 {
     are_in_order(rows);
     if has_row(rows, p, key) {
-        let _ = rows.remove(key);
+        let _ = take_row::<S>(rows, markers, key.as_slice());
+    }
+}
+
+// Takes the row at a key, and the note of its delete marker.
+fn take_row<S: Schema>(rows: &mut Rows<S::Row>, markers: &mut Markers, key: &[u8]) -> Option<S::Row>
+    ensures row { result ≡ shelf_find key.now rows.old.entries }
+    ensures rows { rows.new.entries ≡ without_key key.now rows.old.entries }
+    ensures marked { AllMarked S.words markers.old rows.old.entries → AllMarked S.words markers.new rows.new.entries }
+{
+    are_in_order(rows);
+    let placed = rows.remove(key)?;
+    unmark_row::<S>(markers, key, &placed.row);
+    Some(placed.row)
+}
+
+// Takes back the note of a row's delete marker, if it had nothing else.
+fn unmark_row<S: Schema>(markers: &mut Markers, key: &[u8], row: &S::Row)
+    ensures { OthersStay key.now markers.old markers.new }
+{
+    if let Some(version) = S::marker(row) {
+        unmark(markers, version.0, key);
+    }
+}
+
+/// Takes the row at a key out, and out of its partition's trie.
+pub fn take_out<S: Schema>(shelf: &mut Shelf<S::Row>, key: &[u8]) -> Result<Option<S::Row>, Memory>
+    ensures row { IfOk result (λ row. row ≡ shelf_find key.now shelf.old.rows.entries) }
+    ensures rows { OnOk result (shelf.new.rows.entries ≡ others_at key.now shelf.old.rows.entries) }
+    ensures fits { AllFit S.words shelf.old.index shelf.old.rows.entries → AllFit S.words shelf.new.index shelf.new.rows.entries }
+    ensures marked { AllMarked S.words shelf.old.markers shelf.old.rows.entries → AllMarked S.words shelf.new.markers shelf.new.rows.entries }
+    ensures unchanged { OnErr result (shelf.new.rows.entries ≡ shelf.old.rows.entries) }
+    ensures want { OnlyWant result }
+{
+    are_in_order(&shelf.rows);
+    match shelf.rows.get(key) {
+        None => Ok(None),
+        Some(placed) => {
+            forget(&mut shelf.index, placed.partition, key)?;
+            let row = take_row::<S>(&mut shelf.rows, &mut shelf.markers, key);
+            Ok(row)
+        }
     }
 }

@@ -1,8 +1,10 @@
 //! The rows of a node.
-ghost use Rattle.std.specs.Prelude.{◌≡◌, ◌⊎◌, true, false, [], length, map, filter, All, IsTrue, IfOk, OnOk, OnErr, IsOk, option_copied, option_map};
+ghost use Rattle.std.specs.Prelude.{◌≡◌, ◌⊎◌, ◌||◌, ℕ, List, true, false, [], not, length, map, filter, All, IsTrue, IfOk, OnOk, OnErr, IsOk, option_copied, option_map};
 ghost use Rattle.crdt_core.specs.Outcomes.{OnlyWant, WantOr};
 ghost use Rattle.table_model.specs.Top.{any_unspelled, top};
-ghost use Rattle.table_model.specs.Rows.{merged_in, change_of, find_row, range, rows_in, without, live_blocks};
+ghost use Rattle.table_model.specs.Rows.{merged_in, change_of, find_row, is_at, range, rows_in, without, live_blocks};
+ghost use Rattle.table_store.specs.Index.{has_key};
+ghost use Rattle.table_store.specs.Markers.{is_marked};
 ghost use Rattle.std.specs.Option.{option_and_then};
 ghost use Rattle.blake2_hash.specs.Blake2b.{blake2b};
 ghost use Rattle.table_model.specs.Top.{pairs_of};
@@ -11,16 +13,20 @@ ghost use Rattle.walk_model.specs.Noting.{has_table, is_noted};
 ghost use Rattle.walk_model.specs.Walking.{is_open, taken, asks, notes, plain};
 ghost use Rattle.merkle_sync.specs.Telling.{Tells, TellsNothing};
 
+use crate::markers::add_marked;
 use crate::noted::{has_rows, notes_of, push_noted};
 use crate::roots::take_roots;
 use crate::settling::{settle_all, trie_of};
-use crate::shelf::{Shelf, Taken, drop_rows, find, push_blocks, push_partition, take_into};
+use crate::shelf::{
+    Shelf, Taken, drop_rows, find, push_blocks, push_partition, take_into, take_out,
+};
 use crate::window::rows_past;
 use blake2_hash::{Blake2b, Hash32};
 use crdt_core::{Crdt, Memory};
 use merkle_sync::{Walk, WalkEnd};
 use merkle_trie::Trie;
 use std::alloc::Global;
+use std::collections::BTreeSet;
 use std::marker::Model;
 use table_model::Change;
 use table_schema::Schema;
@@ -188,10 +194,43 @@ impl<S: Schema> Table<S> {
         push_blocks::<S>(&self.first, p, &mut hashes)?;
         push_blocks::<S>(&self.second, p, &mut hashes)?;
         push_blocks::<S>(&self.third, p, &mut hashes)?;
-        drop_rows(&mut self.first, p);
-        drop_rows(&mut self.second, p);
-        drop_rows(&mut self.third, p);
+        drop_rows::<S>(&mut self.first, p);
+        drop_rows::<S>(&mut self.second, p);
+        drop_rows::<S>(&mut self.third, p);
         Ok(hashes)
+    }
+
+    /// Takes out the row of a table and key, if there is one, and gives it.
+    pub fn remove(&mut self, table: u8, key: &[u8]) -> Result<Option<S::Row>, Memory>
+        ensures row { IfOk result (λ row. row ≡ find_row S.words table key.now self.old) }
+        ensures rows { OnOk result (self.new ≡ filter (λ r. not (is_at S.words table key.now r)) self.old) }
+        ensures unchanged { OnErr result (self.new ≡ self.old) }
+        ensures want { OnlyWant result }
+    {
+        match table {
+            1 => {
+                let row = take_out::<S>(&mut self.first, key)?;
+                Ok(row)
+            }
+            2 => {
+                let row = take_out::<S>(&mut self.second, key)?;
+                Ok(row)
+            }
+            3 => {
+                let row = take_out::<S>(&mut self.third, key)?;
+                Ok(row)
+            }
+            _ => Ok(None),
+        }
+    }
+
+    /// Adds the keys of the rows of table 1 that have nothing but a delete marker, whose timestamp is at most `limit`.
+    /// Where there is none, only the least timestamp is looked at.
+    pub fn add_marked(&self, limit: u64, keys: &mut BTreeSet<Vec<u8>>) -> Result<(), Memory>
+        ensures adds { OnOk result ((key : List ℕ) → has_key key keys.new.keys ≡ (has_key key keys.old.keys || is_marked S.words limit (find_row S.words 1 key self.now))) }
+        ensures want { OnlyWant result }
+    {
+        add_marked::<S>(self.alloc, &self.first, limit, keys)
     }
 
     /// Lets the tries take in all rows that changed since, each at its last state. `Full` where one of them can't be

@@ -18,8 +18,9 @@ use crdt_core::Memory;
 use crdt_rows::AnyRow;
 use object_schema::S3Schema;
 use std::alloc::Global;
+use std::collections::BTreeSet;
 use std::test::Fail;
-use table_schema::Schema;
+use table_schema::{Schema, partition};
 use table_store::Table;
 
 // The markers of `a`, `b` and `c`, and a reference.
@@ -181,6 +182,77 @@ const TOPS: [&str; 4] = [
 
 fn top_of(alloc: Global, rows: &[Made]) -> Result<Hash32, Memory> {
     table(alloc, rows)?.top()
+}
+
+// The key of an object in its table.
+fn object_key(alloc: Global, key: &[u8]) -> Result<Vec<u8>, Memory> {
+    let mut whole = Vec::from_slice(alloc, &BUCKET.0)?;
+    whole.extend_from_slice(key)?;
+    Ok(whole)
+}
+
+// How many rows have nothing but a delete marker up to a timestamp.
+fn marked(alloc: Global, table: &Table<S3Schema>, limit: u64) -> Result<usize, Memory> {
+    let mut keys = BTreeSet::new(alloc);
+    table.add_marked(limit, &mut keys)?;
+    Ok(keys.len())
+}
+
+// How many these are up to 0, 1 and 3.
+fn marked_up_to(alloc: Global, table: &Table<S3Schema>) -> Result<(usize, usize, usize), Memory> {
+    Ok((
+        marked(alloc, table, 0)?,
+        marked(alloc, table, 1)?,
+        marked(alloc, table, 3)?,
+    ))
+}
+
+// The markers of `a`, `b` and `c`, the last one later, all of them settled.
+fn with_markers(alloc: Global) -> Result<Table<S3Schema>, Memory> {
+    let mut table = table(alloc, &ROWS)?;
+    table.take_in(row(alloc, Made::Object(b"c", 3, 3, Shape::Marker))?)?;
+    table.settle()?;
+    Ok(table)
+}
+
+// The same without that of `a`.
+fn without_first(alloc: Global) -> Result<Table<S3Schema>, Memory> {
+    let left = [
+        Made::Object(b"b", 1, 1, Shape::Marker),
+        Made::Object(b"c", 3, 3, Shape::Marker),
+        Made::Reference(0x11, 6, false),
+    ];
+    table(alloc, &left)
+}
+
+// Whether there was a row of an object, which is removed.
+fn remove(alloc: Global, table: &mut Table<S3Schema>, key: &[u8]) -> Result<bool, Memory> {
+    let key = object_key(alloc, key)?;
+    Ok(table.remove(1, key.as_slice())?.is_some())
+}
+
+#[test]
+fn rows_are_removed(rt: HostRuntime) -> Result<(), Fail> {
+    let alloc = rt.alloc();
+    let mut table = with_markers(alloc)?;
+    assert!(rt; remove(alloc, &mut table, b"a")?);
+    assert!(rt; !remove(alloc, &mut table, b"a")?);
+    let mut left = without_first(alloc)?;
+    assert_eq!(rt; table.len(), left.len());
+    assert!(rt; table.top()? == left.top()?);
+    let p = partition::<S3Schema>(&row(alloc, ROWS[0])?);
+    assert!(rt; table.value(1, p, &[])? == left.value(1, p, &[])?);
+    Ok(())
+}
+
+#[test]
+fn markers_are_found_by_their_timestamps(rt: HostRuntime) -> Result<(), Fail> {
+    let alloc = rt.alloc();
+    let mut table = with_markers(alloc)?;
+    assert_eq!(rt; marked_up_to(alloc, &table)?, (0, 2, 3));
+    let _ = remove(alloc, &mut table, b"a")?;
+    assert_eq!(rt; marked_up_to(alloc, &table)?, (0, 1, 2));
+    Ok(())
 }
 
 #[test]

@@ -19,13 +19,13 @@ use Rattle.schedule_text.proofs.Inverse.{unread}
 use Rattle.audit_model.specs.declared.said.Answered.{Answered}
 use Rattle.audit_model.specs.declared.said.Told.{Told}
 use Rattle.audit_model.specs.declared.said.Said.{Said}
-use Rattle.audit_model.specs.declared.said.Said.TheVariants.{Event, Size, Redundancy, Sets, Cut, Side, Nodes, Got, Sent, Synced, Done, Listed, Key, Ended, Node, Fresh, End}
+use Rattle.audit_model.specs.declared.said.Said.TheVariants.{Event, Size, Redundancy, Sets, Cut, Side, Nodes, Got, Sent, Synced, Dropped, Done, Listed, Key, Ended, Node, Fresh, End}
 use Rattle.audit_model.specs.Lines.{told_words, answered_words, word_where, zone_word, words_of, is_letter, IsAnswerOf}
 use Rattle.audit_model.specs.Reading.{begins}
 use Rattle.audit_model.proofs.Read.{decimal_is_number}
 use Rattle.transcript_text.specs.declared.line_kind.Kind.{Kind}
 use Rattle.transcript_text.specs.declared.line_kind.Kind.TheVariants as kind
-use Rattle.transcript_text.specs.Words.{first_text, IsSpelledBy, IsAlone, IsPair, IsTriple, IsTold, IsEvent, IsAnswered, IsDone, IsListed, AreZones, AreNodes, IsSets, IsSide, IsSent, IsKey, IsEnded, IsNode, IsDigest}
+use Rattle.transcript_text.specs.Words.{first_text, IsSpelledBy, IsAlone, IsPair, IsTriple, IsTold, IsEvent, IsAnswered, IsDone, IsListed, AreZones, AreNodes, IsSets, IsSide, IsSent, IsDropped, IsKey, IsEnded, IsNode, IsDigest}
 
 abbrev Words : Type 0
 Words = List (Bor (List ℕ))
@@ -128,6 +128,14 @@ sent_part ws s h = absurd (another (codes "sent") ws s h refl)
 pub sent_unread : (ws : List (List ℕ)) → Unread (IsSent ws) (codes "sent") ws
 sent_unread ws f none = unread (IsSpelledBy (codes "sent" ∷ ws)) (IsSent ws) f (sent_part ws) none
 
+dropped_part : (ws : List (List ℕ)) (s : Said) → IsSpelledBy (codes "dropped" ∷ ws) s → (x : ℕ × (ℕ × ℕ)) × IsDropped ws x
+dropped_part ws (Dropped n version) h = let s = h.spelled in ((n, version), (cc, h.in_range))
+dropped_part ws (Event line event told) h = absurd (no_event (codes "dropped") ws line event told refl h)
+dropped_part ws s h = absurd (another (codes "dropped") ws s h refl)
+
+pub dropped_unread : (ws : List (List ℕ)) → Unread (IsDropped ws) (codes "dropped") ws
+dropped_unread ws f none = unread (IsSpelledBy (codes "dropped" ∷ ws)) (IsDropped ws) f (dropped_part ws) none
+
 key_part : (ws : List (List ℕ)) (s : Said) → IsSpelledBy (codes "key" ∷ ws) s → (x : List ℕ × (ℕ × ℕ) × ℕ) × IsKey ws x
 key_part ws (Key key version size) h = let s = h.spelled in ((key, version, size), (cc, h.in_range.0, h.in_range.1))
 key_part ws (Event line event told) h = absurd (no_event (codes "key") ws line event told refl h)
@@ -226,6 +234,7 @@ event_part w ws never (Nodes _) h = absurd (never kind.Nodes (ap first_word h.sp
 event_part w ws never (Got _) h = absurd (never kind.Got (ap first_word h.spelled))
 event_part w ws never (Sent _ _ _ _) h = absurd (never kind.Sent (ap first_word h.spelled))
 event_part w ws never (Synced _ _) h = absurd (never kind.Synced (ap first_word h.spelled))
+event_part w ws never (Dropped _ _) h = absurd (never kind.Dropped (ap first_word h.spelled))
 event_part w ws never (Done _ _ _) h = absurd (never kind.Done (ap first_word h.spelled))
 event_part w ws never (Listed _ _) h = absurd (never kind.Done (ap first_word h.spelled))
 event_part w ws never (Key _ _ _) h = absurd (never kind.Key (ap first_word h.spelled))

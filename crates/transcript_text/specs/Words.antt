@@ -28,6 +28,7 @@ first_text kind.Nodes = codes "cn"
 first_text kind.Got = codes "got"
 first_text kind.Sent = codes "sent"
 first_text kind.Synced = codes "synced"
+first_text kind.Dropped = codes "dropped"
 first_text kind.Done = codes "done"
 first_text kind.Key = codes "key"
 first_text kind.Ended = codes "ended"
@@ -107,6 +108,10 @@ IsSide words s =
 -- a message's number, kind, sender and receiver
 abbrev pub IsSent : List (List ℕ) → ℕ × SentKind × ℕ × ℕ → Type 0
 IsSent words m = (words ≡ decimal m.0 ∷ kind_text m.1 ∷ decimal m.2 ∷ decimal m.3 ∷ []) × AreNumbers (m.0 ∷ m.2 ∷ m.3 ∷ [])
+
+-- a node that dropped a row, and the version of its delete marker
+abbrev pub IsDropped : List (List ℕ) → ℕ × (ℕ × ℕ) → Type 0
+IsDropped words d = (words ≡ decimal d.0 ∷ version_word d.1 ∷ []) × AreNumbers (d.0 ∷ d.1.0 ∷ d.1.1 ∷ [])
 
 -- a request that finished, its kind and its answer
 abbrev pub IsDone : List (List ℕ) → ℕ × DoneWord × Answered → Type 0

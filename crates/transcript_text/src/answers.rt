@@ -36,6 +36,12 @@ fn kind_of(word: &[u8]) -> Option<SentKind>
         Some(SentKind::Block)
     } else if is(word, b"noblock") {
         Some(SentKind::NoBlock)
+    } else if is(word, b"tomb") {
+        Some(SentKind::Tomb)
+    } else if is(word, b"tombed") {
+        Some(SentKind::Tombed)
+    } else if is(word, b"forget") {
+        Some(SentKind::Forget)
     } else if is(word, b"view") {
         Some(SentKind::View)
     } else if is(word, b"walk") {

@@ -12,7 +12,7 @@ use crate::answers::{finished, listed};
 use crate::event::event;
 use crate::line_kind::{Kind, kind_of};
 use crate::numbers::{alone, pair, triple};
-use crate::parts::{ending, list_key, message, node_state, set_run};
+use crate::parts::{dropping, ending, list_key, message, node_state, set_run};
 use crate::vertices::{nodes, side_run};
 use audit_model::Said;
 use crdt_core::Memory;
@@ -93,6 +93,13 @@ fn synced(words: &[&[u8]]) -> Result<Said, LineFault>
     Ok(Said::Synced { node, version })
 }
 
+fn dropped(words: &[&[u8]]) -> Result<Said, LineFault>
+    ensures { Reads (IsSpelledBy (codes "dropped" ∷ texts words.now)) result }
+{
+    let (node, version) = dropping(words)?;
+    Ok(Said::Dropped { node, version })
+}
+
 fn key(alloc: Global, words: &[&[u8]]) -> Result<Said, LineFault>
     ensures { Reads (IsSpelledBy (codes "key" ∷ texts words.now)) result }
 {
@@ -166,6 +173,7 @@ fn of_kind(alloc: Global, kind: Kind, words: &[&[u8]]) -> Result<Said, LineFault
         Kind::Got => got(words),
         Kind::Sent => sent(words),
         Kind::Synced => synced(words),
+        Kind::Dropped => dropped(words),
         Kind::Done => done(words),
         Kind::Key => key(alloc, words),
         Kind::Ended => ended(words),

@@ -17,6 +17,7 @@ pub(crate) enum Kind {
     Got,
     Sent,
     Synced,
+    Dropped,
     Done,
     Key,
     Ended,
@@ -46,6 +47,8 @@ pub(crate) fn kind_of(word: &[u8]) -> Option<Kind>
         Some(Kind::Sent)
     } else if is(word, b"synced") {
         Some(Kind::Synced)
+    } else if is(word, b"dropped") {
+        Some(Kind::Dropped)
     } else if is(word, b"done") {
         Some(Kind::Done)
     } else if is(word, b"key") {

@@ -1,7 +1,7 @@
 //! The words of some kinds of lines, behind the first one.
 ghost use Rattle.schedule_text.specs.Reads.{Reads};
 ghost use Rattle.schedule_text.specs.Kinds.{texts};
-ghost use Rattle.transcript_text.specs.Words.{IsSets, IsSent, IsKey, IsEnded, IsNode};
+ghost use Rattle.transcript_text.specs.Words.{IsSets, IsSent, IsDropped, IsKey, IsEnded, IsNode};
 
 use crate::answers::{end_word, sent_kind, version};
 use crate::numbers::{hash, whole};
@@ -32,6 +32,16 @@ pub(crate) fn message(words: &[&[u8]]) -> Result<(u64, SentKind, u64, u64), Line
         [number, kind, from, to] => {
             Ok((whole(number)?, sent_kind(kind)?, whole(from)?, whole(to)?))
         }
+        _ => Err(LineFault::Outside),
+    }
+}
+
+/// A node that dropped a row, and the version of its delete marker.
+pub(crate) fn dropping(words: &[&[u8]]) -> Result<(u64, (u64, u64)), LineFault>
+    ensures { Reads (IsDropped (texts words.now)) result }
+{
+    match *words {
+        [node, stamp] => Ok((whole(node)?, version(stamp)?)),
         _ => Err(LineFault::Outside),
     }
 }

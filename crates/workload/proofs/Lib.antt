@@ -1,3 +1,4 @@
 mod Ranges
 mod Growing
 pub mod Allowed
+pub mod Others

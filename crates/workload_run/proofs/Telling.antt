@@ -33,6 +33,7 @@ use Rattle.replay_run.proofs.Running.{part_none}
 use Rattle.replay_run.proofs.Checked.{line_is_fresh}
 use Rattle.workload.specs.Schedule.{schedule}
 use Rattle.workload.proofs.Allowed.{schedule_is_within}
+use Rattle.workload_run.proofs.Collecting.{collects_safely}
 use Rattle.workload_run.specs.Answer.{IsAnswer, IsOfWorkload, fresh_summary, IsSummarized, Summarizes}
 
 module _ {O : Type 0} (o : sink.Ghosts O) (count seed : ℕ) (old mid new : O) where
@@ -99,10 +100,10 @@ module _ (always : EveryRunKeepsPromises) (count seed : ℕ) (old new : Option (
   at_last : (turns : List Turn) → IsMoment (acts_of turns) (acts_of turns)
   at_last turns = between (acts_of turns) [] (sym (append-nil (acts_of turns)))
 
-  summary_is_fresh : (turns : List Turn) (text : List ℕ) → ArePlayed turns → IsText (Summary count seed) turns text → WalksAreClear (acts_of turns) → NoClash (run start turns).buckets → text ≡ fresh_summary count seed turns
-  summary_is_fresh turns text played h clear apart =
+  summary_is_fresh : (turns : List Turn) (text : List ℕ) → events_of turns ≡ schedule count seed → ArePlayed turns → IsText (Summary count seed) turns text → WalksAreClear (acts_of turns) → NoClash (run start turns).buckets → text ≡ fresh_summary count seed turns
+  summary_is_fresh turns text scheduled played h clear apart =
       h.text_is ∙ h.ends.text_is
-      ∙ ap (λ line. summary_lines count seed (run start turns) ++ closing (length turns) (run start turns) line) (line_is_fresh (run start turns).history h.ends.line ((kept turns played (acts_of turns) (at_last turns)).recorded clear apart) h.ends.is_line)
+      ∙ ap (λ line. summary_lines count seed (run start turns) ++ closing (length turns) (run start turns) line) (line_is_fresh (run start turns).history h.ends.line ((kept turns played (acts_of turns) (at_last turns)).recorded clear (collects_safely turns count seed scheduled) apart) h.ends.is_line)
 
   done_summarizes : Answers (IsAnswer count seed) Done old new → IsSummarized count seed old new
   done_summarizes h =
@@ -113,7 +114,7 @@ module _ (always : EveryRunKeepsPromises) (count seed : ℕ) (old new : Option (
         played = done.played;
         text = h.text;
         is_text = done.is_text;
-        is_fresh = summary_is_fresh done.turns h.text done.played done.is_text;
+        is_fresh = summary_is_fresh done.turns h.text done.events_are done.played done.is_text;
         wrote = h.wrote;
         promises = kept done.turns done.played;
       }

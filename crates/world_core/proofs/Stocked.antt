@@ -49,6 +49,6 @@ module _ {R : Type 0} (join : R → R → R) (s : Words R) where
   -- the nodes of a first layout have it, and nothing was sent
   pub first_stocked : (w : Model R) → AllStocked (blake2b 32) s join w → (first : Layout) (stage : List Role → List Role) → AllStocked (blake2b 32) s join (applied w (trio_applies {A = Applied} {C = Cut} join s layouts first stage w))
   first_stocked w h first stage = record {
-    nodes = λ m. some_stocked (is_among m (layouts.reading.members first)) (appends layouts (w.nodes m) first) (w.nodes m) (record { proper = (h.nodes m).proper; items_need_none = (h.nodes m).items_need_none; digests = (h.nodes m).digests; has = (h.nodes m).has }) (h.nodes m);
+    nodes = λ m. some_stocked (is_among m (layouts.reading.members first)) (appends layouts (w.nodes m) first) (w.nodes m) (record { proper = (h.nodes m).proper; items_need_none = (h.nodes m).items_need_none; collections_need_none = (h.nodes m).collections_need_none; digests = (h.nodes m).digests; has = (h.nodes m).has }) (h.nodes m);
     messages = all_append (SentWithBlocks (blake2b 32) s) w.messages [] h.messages tt;
   }

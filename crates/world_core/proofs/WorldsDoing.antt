@@ -24,7 +24,7 @@ use Rattle.cluster_machine.specs.Phases.{call_at}
 use Rattle.cluster_machine.specs.Receives.{receives}
 use Rattle.cluster_machine.specs.Acts.{acts}
 use Rattle.cluster_machine.specs.World.{Sent, clock, numbered}
-use Rattle.cluster_machine.specs.Step.{told as says, nothing, refusal, did, received, at_message, begun, beginning, sync_line, marked, applied}
+use Rattle.cluster_machine.specs.Step.{told as says, nothing, refusal, did, received, at_message, begun, beginning, sync_line, marked, dropped_line, applied}
 use Rattle.blake2_hash.specs.Blake2b.{blake2b}
 use Rattle.cluster_machine.specs.Blocks.{BringsBlocks, PacketCarriesBlocks, SentWithBlocks}
 use Rattle.node_parts.specs.declared.packet.Packet.{Packet}
@@ -32,6 +32,7 @@ use Rattle.node_parts.specs.declared.packet.Envelope.{Envelope}
 use Rattle.cluster_machine.specs.Layouts.{layouts}
 use Rattle.node_parts.specs.Posts.{told}
 use Rattle.node_core.specs.Stands.{begins_at, ends_of}
+use Rattle.node_core.proofs.DropNone.{acts_none, begins_none}
 use Rattle.cluster_machine.specs.declared.applied.Applied.{Applied}
 use Rattle.cluster_machine.specs.Trio.{trio, stage_trio}
 use Rattle.cluster_machine.specs.Worlds.{Model, Done, RoomWith, does}
@@ -47,7 +48,7 @@ use Rattle.world_core.specs.Stands.{StandsFor, Tells, DoesSo, SendsOut, CannotSe
 use Rattle.world_core.proofs.NodesAt.{same_at}
 use Rattle.world_core.proofs.WorldsStand.{told_report, is_told, whole_after, IsWhole, whole_of}
 use Rattle.world_core.proofs.Stocked.{acts_stocked}
-use Rattle.world_core.proofs.WorldsSending.{Acted, acted_stands, acted_lines, acted_spelled, at_itself, node_full, post_full, after_it}
+use Rattle.world_core.proofs.WorldsSending.{Acted, acted_stands, acted_lines, quiet_lines, acted_spelled, at_itself, node_full, post_full, after_it}
 
 all_at : {A : Type 0} (P : A → Type 0) (xs : List A) (i : ℕ) (x : A) → AllByRecursion P xs → slice_get xs i ≡ Some x → P x
 all_at P [] i x h e = cc
@@ -69,8 +70,8 @@ module _ {R : Type 0} where
 module _ {S R : Type 0} (join : R → R → R) (s : Words R) where
   -- a node did d in a step, which is told with these words
   did_so : {old new : World S R} {w : Model R} {nodes : Nodes S R} {n before after : ℕ} {out : List (Envelope R)} {d : Did R Layout} {all : List (Line Applied)} → Acted join s old new w nodes old.post n before after out None d w.marks [] all →
-      (words : Told) (report : Report R) → IsWhole join s (after_it w n d w.marks) → report ≡ told_report words all → DoesSo join s new report w (record (did w n d) { words = words })
-  did_so h words report whole is = record { stands = acted_stands join s h whole; tells = is_told report words _ _ is refl refl (acted_lines join s h) h.did.ends refl; spelled = acted_spelled join s h }
+      d.dropped ≡ None → (words : Told) (report : Report R) → IsWhole join s (after_it w n d w.marks) → report ≡ told_report words all → DoesSo join s new report w (record (did w n d) { words = words })
+  did_so h none words report whole is = record { stands = acted_stands join s h whole; tells = is_told report words _ _ is refl refl (quiet_lines join s h none) h.did.ends refl; spelled = acted_spelled join s h }
 
   -- ---- an action
 
@@ -96,7 +97,7 @@ module _ {S R : Type 0} (join : R → R → R) (s : Words R) where
           let it : Acted join s old new w nodes old.post n before after out None a.did w.marks [] all =
           record { stands = h; marked = h.post; did = done.0; synced = synced; raised = raised; sends = subst (λ ls. SendsOut join s (record old { nodes = nodes }) new n before after out ls all) no_lines sends } in
           let e = acts_so join s n action w in
-          did_so it (says a.how) report (record {
+          did_so it (acts_none join s layouts n (clock w n) (w.nodes n) action) (says a.how) report (record {
             sound = fine_stays_sound w e h.sound (fine_did w e n a.did h.sound (λ m. refl) refl (fine_acted w h.sound join s n (clock w n) action));
             stocked = acts_stocked join s laws w h.stocked n action (acted_spelled join s it);
           })
@@ -124,7 +125,7 @@ module _ {S R : Type 0} (join : R → R → R) (s : Words R) where
     gossip_does laws new synced first all report is_sync no_lines sends is =
         let it : Acted join s old new w old.nodes old.post from synced synced out None shows_it w.marks [] all =
         record { stands = h; marked = h.post; did = view_shown; synced = is_sync w.nodes h.nodes; raised = is_sync; sends = subst (λ ls. SendsOut join s old new from synced synced out ls all) no_lines sends } in
-        did_so it Empty report (whole_after join s laws w (Gossip from to) nothing_given (whole_of h) tt tt refl) is
+        did_so it refl Empty report (whole_after join s laws w (Gossip from to) nothing_given (whole_of h) tt tt refl) is
 
   -- ---- a phase
 
@@ -155,7 +156,7 @@ module _ {S R : Type 0} (join : R → R → R) (s : Words R) where
           }
       begun_does new before after all report (Some c) done synced raised sends is whole =
           let it : Acted join s old new w nodes old.post n before after out None _ w.marks [] all = record { stands = h; marked = h.post; did = done; synced = synced; raised = raised; sends = sends } in
-          did_so it Empty report (whole (acted_spelled join s it)) is
+          did_so it (begins_none join s layouts w.kept (w.nodes n) c phase) Empty report (whole (acted_spelled join s it)) is
 
   -- a phase of an open request begins
   module _ (old : World S R) (w : Model R) (number n : ℕ) (phase : Phase R) (h : StandsFor join s old w) (found : numbered w.requests number ≡ Some (record { coordinator = n; is_open = true })) where
@@ -224,19 +225,20 @@ module _ {S R : Type 0} (join : R → R → R) (s : Words R) where
         pub came_sent_full : CannotSend s (record old { nodes = nodes; post = post }) out → RoomWith join s w (does join s w (plainly (Deliver number))) → ⊥
         came_sent_full cannot room = post_full join s (record old { nodes = nodes; post = post }) w came envelope.to out _ _ delivered received_it.posts cannot refl (subst (RoomWith join s w) came_is room)
 
-        pub came_does : (laws : Laws join s) (new : World S R) (before after : ℕ) (empty first all : List (Line Applied)) (ends : List (ℕ × PhaseEnd R)) (plain : Report R) → before ≡ counts 0 Sync (w.nodes envelope.to).view.trackers envelope.to → IsSyncAt join s nodes envelope.to after →
-            empty ≡ [] → first ≡ empty ++ Got number ∷ [] → SendsOut join s (record old { nodes = nodes; post = post }) new envelope.to before after out first all → map ended ends ≡ ends_of given →
+        pub came_does : (laws : Laws join s) (new : World S R) (before after : ℕ) (empty told_got first all : List (Line Applied)) (dropped : Option (ℕ × ℕ)) (ends : List (ℕ × PhaseEnd R)) (plain : Report R) → before ≡ counts 0 Sync (w.nodes envelope.to).view.trackers envelope.to → IsSyncAt join s nodes envelope.to after →
+            empty ≡ [] → told_got ≡ empty ++ Got number ∷ [] → first ≡ told_got ++ dropped_line envelope.to dropped → dropped ≡ (it_does now (w.nodes envelope.to)).dropped → SendsOut join s (record old { nodes = nodes; post = post }) new envelope.to before after out first all → map ended ends ≡ ends_of given →
             plain ≡ told_report Empty all → DoesSo join s new (record plain { ends = ends }) w (does join s w (plainly (Deliver number)))
-        came_does laws new before after empty first all ends plain synced raised no_lines got sends ended_so is =
+        came_does laws new before after empty told_got first all dropped ends plain synced raised no_lines got first_is dropped_is sends ended_so is =
             let d = it_does (clock w envelope.to) (w.nodes envelope.to) in
-            let it : Acted join s old new w nodes post envelope.to before after out given d (marked w.marks (Some (number, record { is_delivered = true; is_lost = false }))) (Got number ∷ []) all =
+            let it : Acted join s old new w nodes post envelope.to before after out given d (marked w.marks (Some (number, record { is_delivered = true; is_lost = false }))) (Got number ∷ dropped_line envelope.to d.dropped) all =
             record {
               stands = h;
               marked = delivered;
               did = received_it;
               synced = synced;
               raised = raised;
-              sends = subst (λ ls. SendsOut join s (record old { nodes = nodes; post = post }) new envelope.to before after out ls all) (got ∙ ap (λ ls. ls ++ Got number ∷ []) no_lines) sends;
+              sends = subst (λ ls. SendsOut join s (record old { nodes = nodes; post = post }) new envelope.to before after out ls all)
+                  (first_is ∙ (λ i. (got ∙ ap (λ ls. ls ++ Got number ∷ []) no_lines) i ++ dropped_line envelope.to ((dropped_is ∙ ap (λ t. (it_does t (w.nodes envelope.to)).dropped) is_now) i))) sends;
             } in
             subst (DoesSo join s new (record plain { ends = ends }) w) (sym came_is) (record {
               stands = acted_stands join s it (subst (λ e. IsWhole join s (applied w e)) came_is (whole_after join s laws w (Deliver number) nothing_given (whole_of h) tt tt (subst (λ e. IsTrue e.is_spelled) (sym came_is) (acted_spelled join s it))));

@@ -13,7 +13,7 @@ use Rattle.cluster_machine.specs.declared.line.Line.{Line}
 use Rattle.cluster_machine.specs.declared.line.Line.TheVariants.{Sent as WasSent, Synced}
 use Rattle.cluster_machine.specs.Node.{Node, Post as Sends, Did}
 use Rattle.cluster_machine.specs.World.{Sent, Mark, packet_size, sent_bytes}
-use Rattle.cluster_machine.specs.Step.{only, sent_by, sent_from, sync_line, kind_of as kind_told, did, applied}
+use Rattle.cluster_machine.specs.Step.{only, sent_by, sent_from, sync_line, dropped_line, kind_of as kind_told, did, applied}
 use Rattle.node_parts.specs.declared.packet.Envelope.{Envelope}
 use Rattle.node_parts.specs.Posts.{posted}
 use Rattle.node_core.specs.Stands.{AreSized, Fits as FitsDid}
@@ -75,7 +75,7 @@ module _ {R : Type 0} where
     fits_did : (join : R → R → R) (w : Model R) (e : Done R) (n : ℕ) (d : Did R Layout) → unwrap_or (e.nodes n) (w.nodes n) ≡ d.node → e.is_spelled ≡ d.is_spelled → RoomWith join s w e → FitsDid s d
     fits_did join w e n d at spelled room =
         let x : FitsNode s d.node = subst (FitsNode s) at (room.1 n) in
-        record { items = record { spelled = x.spelled; queued = x.queued }; rounds = x.rounds; phases = x.phases; spelled = subst IsTrue spelled room.0.1 }
+        record { items = record { spelled = x.spelled; queued = x.queued }; rounds = x.rounds; collections = x.collections; phases = x.phases; spelled = subst IsTrue spelled room.0.1 }
 
   -- the world after d at node n, where these became of the earlier messages
   abbrev pub after_it : Model R → ℕ → Did R Layout → List Mark → Model R
@@ -109,6 +109,11 @@ module _ {S R : Type 0} (join : R → R → R) (s : Words R) where
         (λ i.
         let before = h.synced i in
         let counted = raised i in first ++ (lines_sent (suc (length w.messages)) out (sent_by w n d.posts) they_are i ++ cond (leb counted before) [] (Synced n counted ∷ [])))
+
+    -- the lines of a node that drops no row
+    pub quiet_lines : d.dropped ≡ None → all ≡ first ++ (dropped_line n d.dropped ++ (sent_from (suc (length w.messages)) (sent_by w n d.posts) ++ sync_line n (w.nodes n).view d.node.view))
+    quiet_lines none =
+        acted_lines ∙ ap (λ o. first ++ (dropped_line n o ++ (sent_from (suc (length w.messages)) (sent_by w n d.posts) ++ sync_line n (w.nodes n).view d.node.view))) (sym none)
 
     pub acted_stands : IsWhole join s (after_it w n d marks) → StandsFor join s new (after_it w n d marks)
     acted_stands whole =

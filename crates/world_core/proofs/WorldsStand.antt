@@ -124,6 +124,7 @@ module _ {S R : Type 0} (join : R → R → R) (s : Words R) where
           requests = append-nil w.requests j;
           kept = w.kept;
           reads = w.reads;
+          collected = w.collected;
         })) h
 
     pub plays_nothing : (report : Report R) → report ≡ told_report Empty [] → DoesSo join s c report w (nothing w)

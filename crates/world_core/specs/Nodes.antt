@@ -94,6 +94,10 @@ module _ {S R : Type 0} (join : R → R → R) (s : Words R) where
   abbrev pub BecomesAt : Nodes S R → Nodes S R → ℕ → (Model R Layout → Model R Layout) → Type 0
   BecomesAt old new n f = ties.Steps (AreNodes join s) old (λ xs. AreNodes join s new (with_node n (f (xs n)) xs))
 
+  -- the row that node n dropped in what f does, if it did, has this delete marker
+  abbrev pub DropsAt : Nodes S R → ℕ → Option (ℕ × ℕ) → (Model R Layout → Did R Layout) → Type 0
+  DropsAt old n dropped f = ties.Steps (AreNodes join s) old (λ xs. dropped ≡ (f (xs n)).dropped)
+
   -- after what f does some number or row would not fit
   abbrev pub OverflowsAt : Nodes S R → ℕ → (Model R Layout → Did R Layout) → Type 0
   OverflowsAt old n f = ties.Overflows (AreNodes join s) old (λ xs. Fits s (f (xs n)))

@@ -1,7 +1,8 @@
-//! The kind of a message, and the line of a sync.
+//! The kind of a message, and the lines of a sync and of a row that was dropped.
 ghost use Rattle.std.specs.Prelude.{◌≡◌, ◌++◌, [], ◌∷◌, cond, leb, OnOk};
 ghost use Rattle.crdt_core.specs.Outcomes.{OnlyWant};
 ghost use Rattle.cluster_machine.specs.declared.line.Line.TheVariants.{Synced};
+ghost use Rattle.cluster_machine.specs.Step.{dropped_line};
 ghost use Rattle.world_core.specs.Parts.{kind_of};
 
 use cluster_machine::SentKind;
@@ -31,8 +32,26 @@ pub fn kind<R>(packet: &Packet<R>) -> SentKind
             Message::Walk { .. } => SentKind::Walk,
             Message::Same { .. } => SentKind::Same,
             Message::Differ { .. } => SentKind::Differ,
+            Message::Tomb { .. } => SentKind::Tomb,
+            Message::Tombed { .. } => SentKind::Tombed,
+            Message::Forget { .. } => SentKind::Forget,
         },
     }
+}
+
+/// Says that a node dropped a row with this delete marker, where it did.
+pub fn push_dropped(
+    lines: &mut List<Line>,
+    node: u8,
+    dropped: Option<(u64, u64)>,
+) -> Result<(), Memory>
+    ensures pushed { OnOk result (lines.new ≡ lines.old ++ dropped_line node dropped) }
+    ensures want { OnlyWant result }
+{
+    if let Some((ts, id)) = dropped {
+        lines.push(Line::Dropped { node, ts, id })?;
+    }
+    Ok(())
 }
 
 /// Says that a node raised its own sync, where it rose.

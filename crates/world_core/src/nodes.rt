@@ -26,7 +26,7 @@ ghost use Rattle.node_core.specs.Stands.{begins_at, view_of};
 ghost use Rattle.node_core.specs.declared.node.BeginFault.TheVariants.{NotMember};
 
 use crate::node_line::NodeLine;
-use crate::with_sync::WithSync;
+use crate::with_sync::{Received, WithSync};
 use blake2_hash::Hash32;
 use cluster_machine::{Action, LocalEnd};
 use crdt_core::Memory;
@@ -39,7 +39,7 @@ use shared_value::Shared;
 use std::alloc::Global;
 use std::collections::BTreeMap;
 use table_schema::Schema;
-use wire_messages::{Phase, PhaseEnd};
+use wire_messages::Phase;
 
 /// The nodes that something happened to. Each other one is new: it knows no layout version and has no rows.
 #[derive(Drop)]
@@ -49,7 +49,7 @@ pub struct Nodes<S: Schema> {
 }
 
 impl<S: Schema> Nodes<S> {
-    ghost use Rattle.world_core.specs.Nodes.{newest_in, StayThere, IsLineOf, Opens, AreNodes, IsSyncAt, DoesAt, ActsAt, BecomesAt, OverflowsAt};
+    ghost use Rattle.world_core.specs.Nodes.{newest_in, StayThere, IsLineOf, Opens, AreNodes, IsSyncAt, DoesAt, ActsAt, BecomesAt, DropsAt, OverflowsAt};
 
     pub fn new(alloc: Global) -> Nodes<S>
         ensures { AreNodes S.Row.join S.words result (λ n. new_node) }
@@ -200,11 +200,12 @@ impl<S: Schema> Nodes<S> {
         envelope: &Envelope<S::Row>,
         now: u64,
         out: &mut Vec<Envelope<S::Row>>,
-    ) -> Result<WithSync<Option<(u64, PhaseEnd<S::Row>)>>, Memory>
+    ) -> Result<WithSync<Received<S::Row>>, Memory>
         requires stocked { PacketCarriesBlocks (blake2b 32) S.words (told envelope.now.packet) }
         ensures before { IfOk result (λ given. IsSyncAt S.Row.join S.words self.old envelope.now.to given.before) }
         ensures after { IfOk result (λ given. IsSyncAt S.Row.join S.words self.new envelope.now.to given.after) }
-        ensures receives { IfOk result (λ given. DoesAt S.Row.join S.words self.old self.new envelope.now.to out.old.items out.new.items given.answer (λ x. receives S.Row.join S.words layouts envelope.now.to now x envelope.now.from (told envelope.now.packet))) }
+        ensures receives { IfOk result (λ given. DoesAt S.Row.join S.words self.old self.new envelope.now.to out.old.items out.new.items given.answer.ended (λ x. receives S.Row.join S.words layouts envelope.now.to now x envelope.now.from (told envelope.now.packet))) }
+        ensures dropped { IfOk result (λ given. DropsAt S.Row.join S.words self.old envelope.now.to given.answer.dropped (λ x. receives S.Row.join S.words layouts envelope.now.to now x envelope.now.from (told envelope.now.packet))) }
         ensures causes { WantOr result (OverflowsAt S.Row.join S.words self.old envelope.now.to (λ x. receives S.Row.join S.words layouts envelope.now.to now x envelope.now.from (told envelope.now.packet))) }
     {
         self.ready(envelope.to)?;
@@ -213,9 +214,10 @@ impl<S: Schema> Nodes<S> {
         };
         let before = own_sync(found, envelope.to);
         let ended = found.on_packet(envelope.from, &envelope.packet, now, out)?;
+        let dropped = found.dropped();
         let after = own_sync(found, envelope.to);
         Ok(WithSync {
-            answer: ended,
+            answer: Received { ended, dropped },
             before,
             after,
         })

@@ -27,7 +27,7 @@ ghost use Rattle.world_core.specs.Stands.{SendsOut, CannotSend, acts_so, local_s
 
 use crate::clocks::Clocks;
 use crate::decide::{Decided, decide, layout_of};
-use crate::lines::push_synced;
+use crate::lines::{push_dropped, push_synced};
 use crate::node_line::NodeLine;
 use crate::nodes::Nodes;
 use crate::post::{Post, send};
@@ -216,6 +216,7 @@ impl<S: Schema> World<S> {
             Step::Clean(node) => self.local(node, Action::Clean),
             Step::Work(node) => self.local(node, Action::Work),
             Step::Repair(node) => self.repair(node),
+            Step::Collect(node) => self.local(node, Action::Collect),
             Step::Open(node) => self.open(node),
             Step::Phase(request, phase) => self.phase(request, phase),
             Step::Close(request) => self.close(request),
@@ -399,9 +400,10 @@ impl<S: Schema> World<S> {
         self.post.deliver(message);
         let mut lines = List::new(self.alloc);
         lines.push(Line::Got(message))?;
+        push_dropped(&mut lines, node, given.answer.dropped)?;
         self.tell(node, given.before, given.after, out, &mut lines)?;
         let mut report = self.told(Words::Empty, lines);
-        report.ends = listed(self.alloc, given.answer)?;
+        report.ends = listed(self.alloc, given.answer.ended)?;
         Ok(report)
     }
 
@@ -592,5 +594,6 @@ fn words_of(how: LocalEnd) -> Words
         LocalEnd::Idle { read, ack_least } => Words::Idle(read, ack_least),
         LocalEnd::Worked { rows, blocks } => Words::Two(rows, blocks),
         LocalEnd::Repaired => Words::Empty,
+        LocalEnd::Collected { begun, left } => Words::Two(begun, left),
     }
 }

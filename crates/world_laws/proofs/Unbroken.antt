@@ -14,7 +14,7 @@ use Rattle.quorum_model.specs.declared.range.RangeAnswer.{RangeAnswer}
 use Rattle.quorum_model.specs.Quorum.{StoreSlot, with_confirmation}
 use Rattle.quorum_model.specs.Window.{Window}
 use Rattle.wire_messages.specs.declared.message.Message.{Message}
-use Rattle.wire_messages.specs.declared.message.Message.TheVariants.{Get, Row, Range, Rows, Store, Stored, BlockGet, Block, Walk as AsksValue, Same as HasSame, Differ}
+use Rattle.wire_messages.specs.declared.message.Message.TheVariants.{Get, Row, Range, Rows, Store, Stored, BlockGet, Block, Walk as AsksValue, Same as HasSame, Differ, Tomb, Tombed, Forget}
 use Rattle.wire_messages.specs.declared.message.Tag.{Tag}
 use Rattle.wire_messages.specs.declared.message.Tag.TheVariants.{Call as ForCall, Round as ForRound, Item as ForItem}
 use Rattle.wire_messages.specs.declared.phase.Phase.{Phase}
@@ -30,6 +30,7 @@ use Rattle.cluster_machine.specs.Rounds.{is_complete, walk_at, walks_after, foun
 use Rattle.cluster_machine.specs.Receives.{where_stored, gives_block, takes, compares, walks_on, round_came, confirms, hears, receives}
 use Rattle.cluster_machine.specs.Acts.{Acted, syncs, acts}
 use Rattle.cluster_machine.specs.Keeping.{IsUpTo}
+use Rattle.machine_origins.proofs.Collecting.{tomb_beside, tombed_beside, forget_beside}
 use Rattle.machine_origins.proofs.FollowingSteps.{round_begun}
 use Rattle.machine_origins.proofs.KeepingNodes.{view_seen, view_all}
 
@@ -153,6 +154,9 @@ module _ {R L : Type 0} (join : R → R → R) (s : Words R) (k : Layouts L) (x 
   stay_hears id now from (AsksValue tag named p table prefix hash) = stay_compares id from tag named p table prefix hash
   stay_hears id now from (HasSame tag table prefix) = stay_walks id from tag table prefix None
   stay_hears id now from (Differ tag table prefix pairs) = stay_walks id from tag table prefix (Some pairs)
+  stay_hears id now from (Tomb number round row) = ap (λ v. v.layouts) (tomb_beside join s x k id now from number round row).view
+  stay_hears id now from (Tombed number round named) = ap (λ v. v.layouts) (tombed_beside join s x k id now from number round named).view
+  stay_hears id now from (Forget table key hash) = ap (λ v. v.layouts) (forget_beside join s x table key hash.0).view
   stay_hears id now from _ = refl
 
   -- a message opens no gap

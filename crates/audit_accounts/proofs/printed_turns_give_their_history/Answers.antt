@@ -24,10 +24,10 @@ returns-clause-readable c = λ input events saids turns is short lawful printed.
     (allowed_so input events turns is printed.events_are c.schedules_are_within_limits.ensures) c.schedules_stage_in_range.ensures.first)
 
 pub returns-clause-fresh : goal.returns-clause-fresh
-returns-clause-fresh c = λ input events saids turns others is short lawful printed differ played clear apart said history readable.
+returns-clause-fresh c = λ input events saids turns others is short lawful printed differ played clear in_time apart said history readable.
     c.texts_give_their_history.ensures.fresh input events turns others
     (record { schedule = is; short = short; events_are = printed.events_are; differ = differ; played = played })
     (printed_turns_orderly c.lawful_prints_are_greatest.ensures.computed
     (λ roles wanted version l shown h best range. (c.computed_sheets_are_orderly.ensures roles wanted version l shown h best range).0)
     c.events_stage_what_they_say.ensures c.schedules_stage_in_range.ensures.next (all_prints events saids) lawful start turns printed.given
-    (allowed_so input events turns is printed.events_are c.schedules_are_within_limits.ensures) c.schedules_stage_in_range.ensures.first) clear apart said history readable
+    (allowed_so input events turns is printed.events_are c.schedules_are_within_limits.ensures) c.schedules_stage_in_range.ensures.first) clear in_time apart said history readable

@@ -25,7 +25,7 @@ returns-clause-readable c = λ input events turns is short same played.
     (allowed_so input events turns is same c.schedules_are_within_limits.ensures) c.schedules_stage_in_range.ensures.first)
 
 pub returns-clause-fresh : goal.returns-clause-fresh
-returns-clause-fresh c = λ input events turns is short same played clear apart saids history readable.
+returns-clause-fresh c = λ input events turns is short same played clear in_time apart saids history readable.
     c.texts_give_their_history.ensures.fresh input events turns turns (of_itself input events turns is short same played)
     (turns_orderly (λ roles wanted version l shown h best range. (c.computed_sheets_are_orderly.ensures roles wanted version l shown h best range).0) c.events_stage_what_they_say.ensures c.schedules_stage_in_range.ensures.next start turns played.lawful
-    (allowed_so input events turns is same c.schedules_are_within_limits.ensures) c.schedules_stage_in_range.ensures.first) clear apart saids history readable
+    (allowed_so input events turns is same c.schedules_are_within_limits.ensures) c.schedules_stage_in_range.ensures.first) clear in_time apart saids history readable

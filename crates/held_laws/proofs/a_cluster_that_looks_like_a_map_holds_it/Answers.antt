@@ -3,7 +3,7 @@ use Rattle.object_schema.specs.Schema.{words}
 use Rattle.object_schema.specs.Laws.{schema_laws}
 use Rattle.cluster_machine.specs.Layouts.{layouts}
 use Rattle.store_model.specs.Run.{start}
-use Rattle.store_laws.specs.Hashed.{ActsHash}
+use Rattle.store_laws.proofs.Deeds.{ActsDo, deeds_apart}
 use Rattle.store_laws.proofs.Hashing.{acts_in}
 use Rattle.store_laws.proofs.Every.{every_world}
 use Rattle.store_anchors.proofs.Cited.{Cited}
@@ -16,9 +16,11 @@ pub returns : goal.returns
 returns c cluster P led =
     let acts = led.acts in
     let then = c.every_installed_world_reads_what_was_kept.ensures in
-    let cited : Cited (ActsHash start acts) = record {
-      every = every_world (ActsHash start acts) c.every_world_has_kept_reads.ensures c.every_world_reads_stored_rows.ensures c.every_world_is_sound.ensures c.every_world_gives_windows.ensures then.kept then.stored then.sound then.windows;
-      clear = led.walks;
+    let none = c.nothing_is_collected_without_collect.ensures in
+    let objects = c.every_world_collects_stored_objects.ensures in
+    let cited : Cited (ActsDo start acts) = record {
+      every = every_world (ActsDo start acts) c.every_world_has_kept_reads.ensures c.every_world_reads_stored_rows.ensures c.every_world_is_sound.ensures c.every_world_gives_windows.ensures then.kept then.stored then.sound then.windows none.from_empty none.from_installed objects.from_empty objects.from_installed;
+      clear = deeds_apart start acts led.walks;
       gives = λ digest trio roles moves m is_run brings. c.every_block_phase_gives_its_block.ensures digest any_join words layouts trio roles 256 moves m schema_laws is_run brings;
       shows = c.rows_show_what_was_stored.ensures;
       overwritten = c.gone_versions_were_overwritten.ensures;
@@ -30,4 +32,4 @@ returns c cluster P led =
       stocked = λ first roles moves is_run brings. c.every_node_has_its_blocks.ensures.world digest any_join words layouts first roles 256 moves schema_laws is_run brings;
     } in
     let knows = c.states_know_their_requests.ensures in
-    holds_so cited cited_rows acts led.lawful (acts_in (ActsHash start acts) start acts led.fit (λ x h. h)) (knows.keeps start acts led.lawful knows.begins) cluster P led.run_is led.looks led.in_time led.names
+    holds_so cited cited_rows acts led.lawful (acts_in (ActsDo start acts) start acts led.fit (λ d h. h)) (knows.keeps start acts led.lawful knows.begins) cluster P led.run_is led.looks led.in_time led.names

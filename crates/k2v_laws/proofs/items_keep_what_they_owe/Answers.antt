@@ -1,4 +1,4 @@
-use Rattle.std.specs.Prelude.{List}
+use Rattle.std.specs.Prelude.{List, refl}
 use Rattle.k2v_model.specs.Run.{start}
 use Rattle.k2v_model.specs.Acts.{Act, AreLawfulActs, ActsFit, after_acts}
 use Rattle.k2v_laws.proofs.Acts.{acts_sound}
@@ -15,6 +15,7 @@ returns c =
       kept_reads = c.every_world_has_kept_reads.ensures;
       stored_rows = c.every_world_reads_stored_rows.ensures;
       is_sound = c.every_world_is_sound.ensures;
+      nothing_collected = c.nothing_is_collected_without_markers.ensures (λ row. refl);
     } in
     let sound : (acts : List Act) → AreLawfulActs start acts → ActsFit start acts → IsSound (ActsHash start acts) (after_acts start acts) = acts_sound every in
     record {

@@ -3,7 +3,8 @@ use Rattle.object_schema.specs.Schema.{words}
 use Rattle.object_schema.specs.Laws.{schema_laws}
 use Rattle.cluster_machine.specs.Layouts.{layouts}
 use Rattle.store_model.specs.Run.{start}
-use Rattle.store_laws.specs.Hashed.{ActsHash}
+use Rattle.store_laws.proofs.Deeds.{ActsDo, deeds_apart}
+use Rattle.store_laws.proofs.Promptly.{deeds_clear}
 use Rattle.store_laws.proofs.Hashing.{acts_in}
 use Rattle.store_laws.proofs.Every.{every_world}
 use Rattle.store_anchors.proofs.Cited.{Cited}
@@ -11,29 +12,34 @@ use Rattle.store_anchors.proofs.Copied.{copies, copies_end}
 use Rattle.store_anchors.proofs.copies_take_what_was_written.Goals as goal
 
 pub returns-clause-takes : goal.returns-clause-takes
-returns-clause-takes c acts lawful fit clear =
+returns-clause-takes c acts lawful fit clear safely =
     let then = c.every_installed_world_reads_what_was_kept.ensures in
-    let cited : Cited (ActsHash start acts) = record {
-      every = every_world (ActsHash start acts) c.every_world_has_kept_reads.ensures c.every_world_reads_stored_rows.ensures c.every_world_is_sound.ensures c.every_world_gives_windows.ensures then.kept then.stored then.sound then.windows;
-      clear = clear;
+    let none = c.nothing_is_collected_without_collect.ensures in
+    let objects = c.every_world_collects_stored_objects.ensures in
+    let clear_then = deeds_clear acts clear safely in
+    let cited : Cited (ActsDo start acts) = record {
+      every = every_world (ActsDo start acts) c.every_world_has_kept_reads.ensures c.every_world_reads_stored_rows.ensures c.every_world_is_sound.ensures c.every_world_gives_windows.ensures then.kept then.stored then.sound then.windows none.from_empty none.from_installed objects.from_empty objects.from_installed;
+      clear = clear_then.apart;
       gives = λ digest trio roles moves m is_run brings. c.every_block_phase_gives_its_block.ensures digest any_join words layouts trio roles 256 moves m schema_laws is_run brings;
       shows = c.rows_show_what_was_stored.ensures;
       overwritten = c.gone_versions_were_overwritten.ensures;
       deleted = c.version_rows_join_as_facts.ensures.deleted;
       id = c.version_rows_join_as_facts.ensures.key;
     } in
-    copies cited acts lawful (acts_in (ActsHash start acts) start acts fit (λ x h. h))
+    copies cited clear_then.safe acts lawful (acts_in (ActsDo start acts) start acts fit (λ d h. h))
 
 pub returns-clause-superseded : goal.returns-clause-superseded
 returns-clause-superseded c acts lawful fit clear =
     let then = c.every_installed_world_reads_what_was_kept.ensures in
-    let cited : Cited (ActsHash start acts) = record {
-      every = every_world (ActsHash start acts) c.every_world_has_kept_reads.ensures c.every_world_reads_stored_rows.ensures c.every_world_is_sound.ensures c.every_world_gives_windows.ensures then.kept then.stored then.sound then.windows;
-      clear = clear;
+    let none = c.nothing_is_collected_without_collect.ensures in
+    let objects = c.every_world_collects_stored_objects.ensures in
+    let cited : Cited (ActsDo start acts) = record {
+      every = every_world (ActsDo start acts) c.every_world_has_kept_reads.ensures c.every_world_reads_stored_rows.ensures c.every_world_is_sound.ensures c.every_world_gives_windows.ensures then.kept then.stored then.sound then.windows none.from_empty none.from_installed objects.from_empty objects.from_installed;
+      clear = deeds_apart start acts clear;
       gives = λ digest trio roles moves m is_run brings. c.every_block_phase_gives_its_block.ensures digest any_join words layouts trio roles 256 moves m schema_laws is_run brings;
       shows = c.rows_show_what_was_stored.ensures;
       overwritten = c.gone_versions_were_overwritten.ensures;
       deleted = c.version_rows_join_as_facts.ensures.deleted;
       id = c.version_rows_join_as_facts.ensures.key;
     } in
-    copies_end cited acts lawful (acts_in (ActsHash start acts) start acts fit (λ x h. h))
+    copies_end cited acts lawful (acts_in (ActsDo start acts) start acts fit (λ d h. h))

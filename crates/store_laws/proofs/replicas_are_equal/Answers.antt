@@ -5,13 +5,15 @@ use Rattle.store_laws.proofs.Every.{every_world}
 use Rattle.store_laws.proofs.Starting.{start_sound}
 use Rattle.store_laws.proofs.Reached.{reached_proper}
 use Rattle.store_laws.proofs.Acts.{acts_keep}
-use Rattle.store_laws.specs.Hashed.{ActsHash}
+use Rattle.store_laws.proofs.Deeds.{ActsDo}
 use Rattle.store_laws.proofs.replicas_are_equal.Goals as goal
 
 pub returns : goal.returns
 returns c acts lawful fit =
     let then = c.every_installed_world_reads_what_was_kept.ensures in
-    let every = every_world (ActsHash start acts) c.every_world_has_kept_reads.ensures c.every_world_reads_stored_rows.ensures c.every_world_is_sound.ensures c.every_world_gives_windows.ensures then.kept then.stored then.sound then.windows in
+    let none = c.nothing_is_collected_without_collect.ensures in
+    let objects = c.every_world_collects_stored_objects.ensures in
+    let every = every_world (ActsDo start acts) c.every_world_has_kept_reads.ensures c.every_world_reads_stored_rows.ensures c.every_world_is_sound.ensures c.every_world_gives_windows.ensures then.kept then.stored then.sound then.windows none.from_empty none.from_installed objects.from_empty objects.from_installed in
     let s = after_acts start acts in
     let w = s.world in
     let same = c.same_members_give_same_rows.ensures in

@@ -4,7 +4,7 @@ use Rattle.store_model.specs.Run.{plainly}
 use Rattle.store_model.specs.Acts.{moves}
 use Rattle.serve_cluster.specs.Acting.{DoesActs, LacksRoom}
 use Rattle.change_deeds.specs.Deeds.{step_of}
-use Rattle.serve_cluster.proofs.Events.{acked_so, synced_so, sync_acked_so, cleaned_so, worked_so, repaired_so, ack_lacks, sync_lacks, sync_ack_lacks, clean_lacks, working_lacks, repairing_lacks}
+use Rattle.serve_cluster.proofs.Events.{acked_so, synced_so, sync_acked_so, cleaned_so, worked_so, repaired_so, collected_so, ack_lacks, sync_lacks, sync_ack_lacks, clean_lacks, working_lacks, repairing_lacks, collecting_lacks}
 use Rattle.serve_cluster.proofs.change.event_of.Goals as goal
 
 pub returns-in-Ack-clause-does : goal.returns-in-Ack-clause-does
@@ -42,3 +42,9 @@ returns-in-Repair-clause-does c = λ old new told h. subst (λ (a : Action). Doe
 
 pub returns-in-Repair-clause-causes : goal.returns-in-Repair-clause-causes
 returns-in-Repair-clause-causes c = λ old h. subst (λ (a : Action). LacksRoom old (λ _. moves (plainly (step_of a c.args.node)) ∷ [])) (sym c.in-Repair.is) (repairing_lacks old c.args.node h)
+
+pub returns-in-Collect-clause-does : goal.returns-in-Collect-clause-does
+returns-in-Collect-clause-does c = λ old new told h. subst (λ (a : Action). DoesActs old new (moves (plainly (step_of a c.args.node)) ∷ [])) (sym c.in-Collect.is) (collected_so old new told c.args.node h)
+
+pub returns-in-Collect-clause-causes : goal.returns-in-Collect-clause-causes
+returns-in-Collect-clause-causes c = λ old h. subst (λ (a : Action). LacksRoom old (λ _. moves (plainly (step_of a c.args.node)) ∷ [])) (sym c.in-Collect.is) (collecting_lacks old c.args.node h)

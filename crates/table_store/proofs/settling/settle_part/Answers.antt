@@ -23,12 +23,14 @@ returns-in_err-settle_rows-in-Some-clause-settles g c =
     let puts = ((c.get_mut.follows.holds c.settle_rows.new.part).3 (ap is_some there)).0 in
     record {
       rows = refl;
+      markers = refl;
       fits = fit_one index later c.args.p c.in-Some.part.now c.settle_rows.new.part there puts g.S.Schema.words c.args.shelf.now.rows.entries c.settle_rows.ensures.fits c.requires;
     }
 
 pub returns-in-None-clause-settles : goal.returns-in-None-clause-settles
 returns-in-None-clause-settles g c = record {
   rows = refl;
+  markers = refl;
   fits = subst (λ index. AllFit g.S.Schema.words index c.args.shelf.now.rows.entries) (sym c.get_mut.follows.holds-at-none) c.requires;
 }
 
@@ -52,6 +54,7 @@ returns-in_ok-settle_rows-in-Some-clause-settles g c =
     let puts = ((c.get_mut.follows.holds c.settle_rows.new.part).3 (ap is_some there)).0 in
     record {
       rows = refl;
+      markers = refl;
       fits = fit_one index later c.args.p c.in-Some.part.now c.settle_rows.new.part there puts g.S.Schema.words c.args.shelf.now.rows.entries c.settle_rows.ensures.fits c.requires;
     }
 

@@ -19,7 +19,7 @@ invariant_of-shelf-in-Some g c =
     let there = are_there index p keys entries (ap (λ o. keys_of (entries_in o)) (sym c.in-Some.ensures.value)) c.args.shelf.now.indexed in
     record {
       indexed =
-          ap (list_all (is_indexed c.remove.new.self)) (c.drop_keys.ensures ∙ kept_others p keys entries there)
+          ap (list_all (is_indexed c.remove.new.self)) (c.drop_keys.ensures.rows ∙ kept_others p keys entries there)
           ∙ indexed_without p index c.remove.new.self (removed_others index c.remove.new.self p c.remove.ensures.updates.0) entries c.args.shelf.now.indexed;
     }
 
@@ -28,7 +28,7 @@ returns-in-Some-clause-rows g c =
     let p = c.args.p in
     let entries = c.args.shelf.now.rows.entries in
     let keys = keys_of c.in-Some.part.now.pairs.entries in
-    c.drop_keys.ensures
+    c.drop_keys.ensures.rows
     ∙ kept_others p keys entries (are_there c.args.shelf.now.index p keys entries (ap (λ o. keys_of (entries_in o)) (sym c.in-Some.ensures.value)) c.args.shelf.now.indexed)
 
 pub returns-in-None-clause-rows : goal.returns-in-None-clause-rows
@@ -43,5 +43,8 @@ returns-in-Some-clause-fits g c s fit =
     let index = c.args.shelf.now.index in
     let entries = c.args.shelf.now.rows.entries in
     let keys = keys_of c.in-Some.part.now.pairs.entries in
-    let rows = c.drop_keys.ensures ∙ kept_others p keys entries (are_there index p keys entries (ap (λ o. keys_of (entries_in o)) (sym c.in-Some.ensures.value)) c.args.shelf.now.indexed) in
+    let rows = c.drop_keys.ensures.rows ∙ kept_others p keys entries (are_there index p keys entries (ap (λ o. keys_of (entries_in o)) (sym c.in-Some.ensures.value)) c.args.shelf.now.indexed) in
     subst (AllFit s c.remove.new.self) (sym rows) (fit_without s index c.remove.new.self p entries c.are_in_order.ensures c.remove.ensures.updates.0 fit)
+
+pub returns-in-Some-clause-marked : goal.returns-in-Some-clause-marked
+returns-in-Some-clause-marked g c = c.drop_keys.ensures.marked

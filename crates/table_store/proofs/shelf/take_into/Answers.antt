@@ -1,4 +1,4 @@
-use Rattle.std.proofs.Common.{◌≡◌, Option, Some, None, Result, Ok, Err, OnErr, false, is_some, option_map, refl, ap, sym, ◌∙◌}
+use Rattle.std.proofs.Common.{◌≡◌, Option, Some, None, Result, Ok, Err, OnErr, false, is_some, option_map, refl, ap, sym, ◌∙◌, subst}
 use Rattle.std.specs.List.{list_all}
 use Rattle.std.specs.Option.{option_and_then}
 use Rattle.std.specs.Map.{set_value}
@@ -10,8 +10,10 @@ use Rattle.table_model.specs.Rows.{change_of}
 use Rattle.table_store.specs.declared.shelf.Placed.{Placed}
 use Rattle.table_store.specs.Shelf.{shelf_rows, placed_at, is_indexed, vec_cmp}
 use Rattle.table_store.specs.Index.{has_key, keys_under, waits_in}
+use Rattle.table_store.specs.Markers.{OthersStay, marked_at}
 use Rattle.table_store.proofs.Entries.{lookup_put}
 use Rattle.table_store.proofs.Fitting.{fits_on, fits_put}
+use Rattle.table_store.proofs.Marking.{marked_gone, marked_put, marked_stay}
 use Rattle.table_store.proofs.Partitions.{indexed_more, indexed_put_or_not, indexed_again}
 use Rattle.table_store.proofs.Shelves.{merged_with, at_same, row_there, none_there, written_is_put, merged_here, placed_put, found_is, entry_new, entry_merged}
 use Rattle.table_store.proofs.shelf.take_into.Goals as goal
@@ -153,6 +155,37 @@ returns-in-Some-clause-change g c =
     let here : placed_at (words.key row) entries ≡ Some there = at_same (Some there) c.as_slice.result.now (words.key row) entries c.in-Some.ensures.value (c.as_slice.ensures.value ∙ key-is) in
     c.in_ok-taken.ensures.change ∙ ap (λ o. change_of join words o row) (sym (row_there (words.key row) there entries here))
 
+pub returns-in_err-note-clause-marked : goal.returns-in_err-note-clause-marked
+returns-in_err-note-clause-marked g c =
+    let entries = c.args.shelf.now.rows.entries in
+    let there = c.in-Some.there.now in
+    let markers = c.args.shelf.now.markers in
+    marked_stay g.S.Schema.words markers markers entries (c.get_mut.follows.lender there).entries
+    ((c.get_mut.follows.holds there).0 ∙ set_value_same _ entries there (sym c.in-Some.ensures.value)) (λ t key had. had)
+
+pub returns-in_err-taken-clause-marked : goal.returns-in_err-taken-clause-marked
+returns-in_err-taken-clause-marked g c =
+    let entries = c.args.shelf.now.rows.entries in
+    let there = c.in-Some.there.now in
+    let new = c.merge_at.new.there in
+    marked_stay g.S.Schema.words c.args.shelf.now.markers c.merge_at.new.markers entries (c.get_mut.follows.lender new).entries
+    ((c.get_mut.follows.holds new).0 ∙ (ap (set_value _ entries) c.in_err-taken.ensures.unchanged ∙ set_value_same _ entries there (sym c.in-Some.ensures.value)))
+    c.in_err-taken.ensures.stay
+
+pub returns-in-Some-clause-marked : goal.returns-in-Some-clause-marked
+returns-in-Some-clause-marked g c all =
+    let entries = c.args.shelf.now.rows.entries in
+    let markers = c.args.shelf.now.markers in
+    let key = c.into_vec-key.result in
+    let there = c.in-Some.there.now in
+    let new = c.merge_at.new.there in
+    let found : placed_at key.items entries ≡ Some there = at_same (Some there) c.as_slice.result.now key.items entries c.in-Some.ensures.value c.as_slice.ensures.value in
+    let put = written_is_put key new there entries (c.get_mut.follows.lender new).entries c.as_slice.result.now c.as_slice.ensures.value c.get_mut.ensures.ordered found (c.get_mut.follows.holds new).0 in
+    marked_put g.S.Schema.words key.items markers c.merge_at.new.markers entries (c.get_mut.follows.lender new).entries
+    (subst (λ k. OthersStay k markers c.merge_at.new.markers) c.as_slice-in-Some-2.ensures.value c.merge_at.ensures.others) all
+    new (λ version marker. ap (λ k. marked_at version.0 k c.merge_at.new.markers) (sym c.as_slice-in-Some-2.ensures.value) ∙ c.in_ok-taken.ensures.marked version marker)
+    (λ other. ap (placed_at other) put ∙ lookup_put other key new entries)
+
 -- ---- none does
 
 pub invariant_of-shelf-in-Break-branch-4 : goal.invariant_of-shelf-in-Break-branch-4
@@ -249,3 +282,49 @@ returns-clause-change g c =
     let none : placed_at (words.key row) entries ≡ None = at_same None c.as_slice.result.now (words.key row) entries c.in_default.ensures.value (c.as_slice.ensures.value ∙ key-is) in
     let live : c.is_some.result ≡ is_some (words.live_block row) = c.is_some.ensures ∙ (some_is (λ h. h.0) c.live_block.result ∙ ap is_some c.live_block.ensures) in
     (λ i. record { triggered = c.new.ensures i; was_live = false; is_live = live i }) ∙ ap (λ o. change_of join words o row) (sym (none_there (words.key row) entries none))
+
+-- ---- its marker is noted
+
+pub invariant_of-shelf-in-Break-branch-5 : goal.invariant_of-shelf-in-Break-branch-5
+invariant_of-shelf-in-Break-branch-5 g c =
+    let entries = c.args.shelf.now.rows.entries in
+    let same : c.get_mut.follows.lender-at-none.entries ≡ entries = ap (λ m. m.entries) c.get_mut.follows.holds-at-none in
+    record { indexed = ap (list_all (is_indexed c.note-2.new.index)) same ∙ indexed_more c.args.shelf.now.index c.note-2.new.index entries c.note-2.ensures.others c.args.shelf.now.indexed }
+
+pub returns-in_err-change_marker-clause-fits : goal.returns-in_err-change_marker-clause-fits
+returns-in_err-change_marker-clause-fits g c fit =
+    let entries = c.args.shelf.now.rows.entries in
+    fits_on g.S.Schema.words c.args.shelf.now.index c.note-2.new.index entries c.get_mut.follows.lender-at-none.entries c.args.shelf.now.indexed c.note-2.ensures.grows (ap (λ m. m.entries) c.get_mut.follows.holds-at-none) fit
+
+pub returns-in_err-note-2-clause-marked : goal.returns-in_err-note-2-clause-marked
+returns-in_err-note-2-clause-marked g c =
+    let markers = c.args.shelf.now.markers in
+    marked_stay g.S.Schema.words markers markers c.args.shelf.now.rows.entries c.get_mut.follows.lender-at-none.entries (ap (λ m. m.entries) c.get_mut.follows.holds-at-none) (λ t key had. had)
+
+pub returns-in_err-change_marker-clause-marked : goal.returns-in_err-change_marker-clause-marked
+returns-in_err-change_marker-clause-marked g c =
+    marked_stay g.S.Schema.words c.args.shelf.now.markers c.change_marker.new.markers c.args.shelf.now.rows.entries c.get_mut.follows.lender-at-none.entries
+    (ap (λ m. m.entries) c.get_mut.follows.holds-at-none) c.in_err-change_marker.ensures.stay
+
+pub returns-in_err-insert-clause-marked : goal.returns-in_err-insert-clause-marked
+returns-in_err-insert-clause-marked g c all =
+    let entries = c.args.shelf.now.rows.entries in
+    let markers = c.args.shelf.now.markers in
+    let key = c.into_vec-key.result in
+    let none : placed_at key.items entries ≡ None = at_same None c.as_slice.result.now key.items entries c.in_default.ensures.value c.as_slice.ensures.value in
+    let same : c.insert.new.self.entries ≡ entries = c.in_err-insert.ensures.err ∙ ap (λ m. m.entries) c.get_mut.follows.holds-at-none in
+    marked_gone g.S.Schema.words key.items markers c.change_marker.new.markers entries c.insert.new.self.entries
+    (subst (λ k. OthersStay k markers c.change_marker.new.markers) c.as_slice-3.ensures.value c.change_marker.ensures.others) all
+    (record { gone = ap (placed_at key.items) same ∙ none; others = λ other apart. ap (placed_at other) same })
+
+pub returns-clause-marked : goal.returns-clause-marked
+returns-clause-marked g c all =
+    let entries = c.args.shelf.now.rows.entries in
+    let markers = c.args.shelf.now.markers in
+    let key = c.into_vec-key.result in
+    let placed : Placed g.row.S-Row.Denot = record { partition = c.partition.result; row = c.args.row } in
+    let same : c.get_mut.follows.lender-at-none.entries ≡ entries = ap (λ m. m.entries) c.get_mut.follows.holds-at-none in
+    marked_put g.S.Schema.words key.items markers c.change_marker.new.markers entries c.insert.new.self.entries
+    (subst (λ k. OthersStay k markers c.change_marker.new.markers) c.as_slice-3.ensures.value c.change_marker.ensures.others) all
+    placed (λ version marker. ap (λ k. marked_at version.0 k c.change_marker.new.markers) (sym c.as_slice-3.ensures.value) ∙ c.in_ok-change_marker.ensures.marked version (c.marker-new.ensures ∙ marker))
+    (λ other. ap (placed_at other) (c.in_ok-insert.ensures.entries ∙ ap (λ es. insert_entry vec_cmp es key placed) same) ∙ lookup_put other key placed entries)

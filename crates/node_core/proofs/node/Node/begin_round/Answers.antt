@@ -70,6 +70,7 @@ returns-clause-begins g c id x may at is =
       begun = number;
       mending_is = now.rounds.mending_is;
       lasting_is = tt;
+      gc = now.gc;
       has_version = now.has_version;
     }) in (
       rw (here.1, there.1) (record {

@@ -20,6 +20,7 @@ returns-clause-cleans g c out id x is =
             contents = is.contents;
             calls = is.calls;
             rounds = is.rounds;
+            gc = is.gc;
             has_version = version_stays x.view v x.calls (cleaned_newest x.view (subst (λ w. is_gapless reading w.layouts ≡ true) is.view own)) is.has_version;
           })),
       ap At (c.clean-oldest.ensures.left ∙ ap (oldest reading) seen),

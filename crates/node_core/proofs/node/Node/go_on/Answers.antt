@@ -16,6 +16,7 @@ returns-in_ok-raise-clause-goes_on g c id x r moving is =
       contents = same_contents x v x.calls None x.rounds x.mending (Some (record { number = r.number; walks = r.walks })) is.contents;
       calls = is.calls;
       rounds = record { is_open = tt; begun = is.begun; mending_is = is.mending_is; lasting_is = c.into_lasting.ensures id r moving };
+      gc = is.gc;
       has_version = version_kept x.view v.trackers x.calls is.has_version;
     })
 

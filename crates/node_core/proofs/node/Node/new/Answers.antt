@@ -11,5 +11,6 @@ returns-clause-stands g c = record {
   contents = c.in_ok-new.ensures.empty;
   calls = c.new-3.ensures;
   rounds = c.new-4.ensures c.args.id;
+  gc = c.new-5.ensures;
   has_version = tt;
 }

@@ -20,5 +20,6 @@ returns-in-Ok-clause-opens g c id x below is =
       contents = same_contents x x.view calls x.round x.rounds x.mending x.lasting is.contents;
       calls = rw start at (c.in-Ok.ensures.begun x.calls is.calls below);
       rounds = is.rounds;
+      gc = is.gc;
       has_version = member_has_version x.view c.args.self.now.id (subst (λ v. is_gapless reading v.layouts ≡ true) is.view gapless) member;
     }

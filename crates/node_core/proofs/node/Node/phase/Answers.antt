@@ -39,6 +39,7 @@ returns-clause-begins g c kept id x is =
       contents = same_contents x x.view (with_call entered x.calls) x.round x.rounds x.mending x.lasting is.contents;
       calls = c.enter.ensures x.calls o.0 began.doing is.calls o.1 began.is;
       rounds = is.rounds;
+      gc = is.gc;
       has_version = version_called x.view entered x.calls is.has_version;
     } in
     subst (λ found. Done join s (record self { calls = c.enter.new.self }) id c.args.out.now.items c.begin.new.out.items None (begins_at s kept x c.args.phase found)) (sym o.1) (record {

@@ -62,6 +62,7 @@ returns-clause-repairs g c = (
             mending_is = subst (λ m. IsMended c.in_ok-mending.mending m) (λ i. record { number = number i; walks = st.begun_are i }) c.in_ok-mending.ensures.is;
             lasting_is = now.rounds.lasting_is;
           };
+          gc = now.gc;
           has_version = now.has_version;
         };
         posts = st.posts;

@@ -17,5 +17,6 @@ returns-clause-sees g c = ok_to c.look_around.result c.look_around.ensures.sees 
       contents = is.contents;
       calls = is.calls;
       rounds = is.rounds;
+      gc = is.gc;
       has_version = version_stays x.view v x.calls (newer_merged x.view (known other) (subst (λ w. is_gapless reading w.layouts ≡ true) is.view own) other.gapless) is.has_version;
     }))

@@ -34,7 +34,7 @@ returns-clause-deletes g c x h =
         queued = h.queued;
         blocks = subst (λ k. AreBlocks join words k x.accepted (filter (stays join words now x) x.blocks) (filter (λ n. not (is_due join words now x n.hash)) x.notes)) (sym is) (blocks_without_due join words old x now c.len-before.ensures.in_order h.blocks);
       };
-      rest = record { view = refl; calls = refl; round = refl; rounds = refl; mending = refl; lasting = refl };
+      rest = record { view = refl; calls = refl; round = refl; rounds = refl; mending = refl; lasting = refl; gc = refl };
     }
 
 pub returns-clause-count : goal.returns-clause-count

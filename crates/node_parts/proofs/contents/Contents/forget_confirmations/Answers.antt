@@ -17,5 +17,5 @@ returns g c x h =
         queued = ap (λ (o : Outbox). o.pushed) c.forget_confirms.ensures ∙ h.queued;
         blocks = h.blocks;
       };
-      rest = record { view = refl; calls = refl; round = refl; rounds = refl; mending = refl; lasting = refl };
+      rest = record { view = refl; calls = refl; round = refl; rounds = refl; mending = refl; lasting = refl; gc = refl };
     }

@@ -1,4 +1,4 @@
-use Rattle.std.proofs.Common.{rules, ◌≡◌, map, ap, subst, ◌∙◌, arith}
+use Rattle.std.proofs.Common.{rules, map, ap, subst, ◌∙◌, arith}
 use Rattle.std.proofs.lemmas.Fn.{filter_same}
 use Rattle.std.proofs.lemmas.List.{take_all}
 use Rattle.table_model.specs.Rows.{rows_in}

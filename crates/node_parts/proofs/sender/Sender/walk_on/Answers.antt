@@ -1,4 +1,4 @@
-use Rattle.std.proofs.Common.{◌≡◌, true, false, Some, None, refl, ap, subst, ◌∙◌}
+use Rattle.std.proofs.Common.{true, false, Some, refl, ap, subst, ◌∙◌}
 use Rattle.merkle_sync.specs.declared.walk_end.WalkEnd.TheVariants.{Same, Ask, Push}
 use Rattle.node_parts.specs.Sends.{Asks, Pushes}
 use Rattle.node_parts.specs.Walks.{TakesAnswer, LacksSpelling}

@@ -1,6 +1,5 @@
-use Rattle.std.proofs.Common.{◌≡◌, true, false, cond, Some, None, IsSome, option_map, refl, sym, ap, subst, ◌∙◌}
+use Rattle.std.proofs.Common.{◌≡◌, true, false, Some, IsSome, option_map, refl, sym, ap, subst, ◌∙◌}
 use Rattle.std.specs.BTreeMap.{get}
-use Rattle.std.specs.Ordering.{is_eq}
 use Rattle.node_parts.specs.declared.walks.Walks.{Walks}
 use Rattle.node_parts.specs.Walks.{walk_cmp, has_ended}
 use Rattle.node_parts.proofs.KeptWalks.{as_walk, Updated, awaits_there, unchanged_at, taken_after, tells_none, tells_some}

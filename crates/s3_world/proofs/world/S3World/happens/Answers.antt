@@ -4,7 +4,7 @@ use Rattle.world_core.specs.Stands.{nothing_given}
 use Rattle.s3_world.specs.Stands.{KeepsIn}
 use Rattle.cluster_machine.specs.declared.step.Step.TheVariants as step
 use Rattle.flow_model.specs.declared.order.Order.TheVariants as order
-use Rattle.store_model.specs.declared.event.Event.TheVariants.{Bucket, Put, Get, Head, Delete, Copy, List as Keys, Deliver, Drain, Ack, Sync, SyncAck, Clean, Work, Repair}
+use Rattle.store_model.specs.declared.event.Event.TheVariants.{Bucket, Put, Get, Head, Delete, Copy, List as Keys, Deliver, Drain, Ack, Sync, SyncAck, Clean, Work, Repair, Collect}
 use Rattle.store_model.specs.Run.{silent, delivers, drains}
 use Rattle.store_model.specs.Events.{object_bytes}
 use Rattle.s3_world.proofs.Played.{plain_keeps, event_plays, event_overflows, order_plays, order_overflows, apply_plays, apply_overflows}
@@ -140,3 +140,7 @@ returns-in-Work-clause-keeps c =
 pub returns-in-Repair-clause-keeps : goal.returns-in-Repair-clause-keeps
 returns-in-Repair-clause-keeps c =
     rw c.in-Repair.is (plain_keeps c.args.self.now c.plain-in-Repair.new.self (Repair c.in-Repair.node) (step.Repair c.in-Repair.node) (λ choice. refl) (λ w choice. refl) (λ s. (tt, tt, tt)) c.plain-in-Repair.result c.plain-in-Repair.ensures.keeps)
+
+pub returns-in-Collect-clause-keeps : goal.returns-in-Collect-clause-keeps
+returns-in-Collect-clause-keeps c =
+    rw c.in-Collect.is (plain_keeps c.args.self.now c.plain-in-Collect.new.self (Collect c.in-Collect.node) (step.Collect c.in-Collect.node) (λ choice. refl) (λ w choice. refl) (λ s. (tt, tt, tt)) c.plain-in-Collect.result c.plain-in-Collect.ensures.keeps)

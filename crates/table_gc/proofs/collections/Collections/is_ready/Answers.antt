@@ -1,5 +1,5 @@
 use Rattle.std.proofs.Common.{◌≡◌, Some, None, ap, sym, ◌∙◌}
-use Rattle.table_gc.specs.Collecting.{numbered, is_ready}
+use Rattle.gc_model.specs.Collecting.{numbered, is_ready}
 use Rattle.table_gc.proofs.Numbering.{none_found, one_found}
 use Rattle.table_gc.proofs.collections.Collections.is_ready.Goals as goal
 
@@ -7,7 +7,7 @@ pub returns-in-Some : goal.returns-in-Some
 returns-in-Some c =
     let v = c.at.result.now in
     let is : v.number ≡ c.args.number = rw (c.as_slice.ensures, c.at.ensures) at c.in-Some.ensures.found in
-    let found : numbered c.args.number c.args.self.now ≡ Some v = rw (← c.self.view_is) (one_found c.args.number 0 c.self.inside.list c.in-Some.i v c.self.invariant.rises c.at.ensures is) in
+    let found : numbered c.args.number c.args.self.now ≡ Some v = rw (← c.self.view_is) (one_found c.args.number 0 c.self.inside.list c.in-Some.i v c.self.invariant.numbered.rises c.at.ensures is) in
     c.is_ready.ensures ∙ sym (ap is_ready found)
 
 pub returns-in-None : goal.returns-in-None

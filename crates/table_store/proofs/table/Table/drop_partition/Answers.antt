@@ -16,6 +16,7 @@ invariant_of-self g c =
       first_fits = c.drop_rows.ensures.fits words c.self.invariant.first_fits;
       second_fits = c.drop_rows-2.ensures.fits words c.self.invariant.second_fits;
       third_fits = c.drop_rows-3.ensures.fits words c.self.invariant.third_fits;
+      marked = c.drop_rows.ensures.marked c.self.invariant.marked;
       nothing_kept = c.self.invariant.nothing_kept;
       nothing_queued = c.self.invariant.nothing_queued;
     }

@@ -10,6 +10,7 @@ invariant_of-result g c =
       first_fits = c.new.ensures.fits words;
       second_fits = c.new-2.ensures.fits words;
       third_fits = c.new-3.ensures.fits words;
+      marked = c.new.ensures.marked words;
       nothing_kept = c.new-4.ensures.empty;
       nothing_queued = c.new-4.ensures.settled;
     }

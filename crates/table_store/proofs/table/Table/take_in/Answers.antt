@@ -22,6 +22,7 @@ invariant_of-self-in-1 g c =
       first_fits = c.take_into.ensures.fits c.self.invariant.first_fits;
       second_fits = c.self.invariant.second_fits;
       third_fits = c.self.invariant.third_fits;
+      marked = c.take_into.ensures.marked c.self.invariant.marked;
       nothing_kept = c.self.invariant.nothing_kept;
       nothing_queued = c.self.invariant.nothing_queued;
     }
@@ -75,6 +76,7 @@ invariant_of-self-in-2 g c =
       second_fits = c.take_into-in-2.ensures.fits c.self.invariant.second_fits;
       first_fits = c.self.invariant.first_fits;
       third_fits = c.self.invariant.third_fits;
+      marked = c.self.invariant.marked;
       nothing_kept = c.self.invariant.nothing_kept;
       nothing_queued = c.self.invariant.nothing_queued;
     }
@@ -128,6 +130,7 @@ invariant_of-self-in_default g c =
       third_fits = c.take_into-in_default.ensures.fits c.self.invariant.third_fits;
       first_fits = c.self.invariant.first_fits;
       second_fits = c.self.invariant.second_fits;
+      marked = c.self.invariant.marked;
       nothing_kept = c.self.invariant.nothing_kept;
       nothing_queued = c.self.invariant.nothing_queued;
     }
@@ -176,6 +179,7 @@ invariant_of-self g c =
       first_fits = c.take_into.ensures.fits c.self.invariant.first_fits;
       second_fits = c.self.invariant.second_fits;
       third_fits = c.self.invariant.third_fits;
+      marked = c.take_into.ensures.marked c.self.invariant.marked;
       nothing_kept = c.self.invariant.nothing_kept;
       nothing_queued = c.self.invariant.nothing_queued;
     }
@@ -190,6 +194,7 @@ invariant_of-self-in_err-taken-in-2 g c =
       first_fits = c.self.invariant.first_fits;
       second_fits = c.take_into-in-2.ensures.fits c.self.invariant.second_fits;
       third_fits = c.self.invariant.third_fits;
+      marked = c.self.invariant.marked;
       nothing_kept = c.self.invariant.nothing_kept;
       nothing_queued = c.self.invariant.nothing_queued;
     }
@@ -204,6 +209,7 @@ invariant_of-self-in_err-taken-in_default g c =
       first_fits = c.self.invariant.first_fits;
       second_fits = c.self.invariant.second_fits;
       third_fits = c.take_into-in_default.ensures.fits c.self.invariant.third_fits;
+      marked = c.self.invariant.marked;
       nothing_kept = c.self.invariant.nothing_kept;
       nothing_queued = c.self.invariant.nothing_queued;
     }

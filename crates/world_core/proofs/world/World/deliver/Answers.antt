@@ -41,7 +41,7 @@ returns-in_err-tell-clause-causes g c =
         λ w h.
             let found = c.in-Ok.ensures.found s w.messages w.marks h.post in
             came_sent_full g.S.Row.Crdt.join s c.args.self.now w c.args.message c.in-Ok.envelope.now h found c.now-now.result (c.now-now.ensures w.time w.skew_of h.clocks)
-            c.receive.new.self c.deliver.new.self c.new-out.result.items c.receive.new.out.items c.in_ok-given.given.answer c.new-out.ensures.items c.in_ok-given.ensures.receives
+            c.receive.new.self c.deliver.new.self c.new-out.result.items c.receive.new.out.items c.in_ok-given.given.answer.ended c.new-out.ensures.items c.in_ok-given.ensures.receives
             (c.deliver.ensures s w.messages w.marks found.mark h.post found.is_marked found.not_lost) full.1,
       )
     ])
@@ -51,6 +51,6 @@ returns-clause-plays g c w h =
     let s = g.S.Schema.words in
     let found = c.in-Ok.ensures.found s w.messages w.marks h.post in
     came_does g.S.Row.Crdt.join s c.args.self.now w c.args.message c.in-Ok.envelope.now h found c.now-now.result (c.now-now.ensures w.time w.skew_of h.clocks)
-    c.receive.new.self c.deliver.new.self c.new-out.result.items c.receive.new.out.items c.in_ok-given.given.answer c.new-out.ensures.items c.in_ok-given.ensures.receives
+    c.receive.new.self c.deliver.new.self c.new-out.result.items c.receive.new.out.items c.in_ok-given.given.answer.ended c.new-out.ensures.items c.in_ok-given.ensures.receives
     (c.deliver.ensures s w.messages w.marks found.mark h.post found.is_marked found.not_lost)
-    g.met.S.Schema.laws c.tell.new.self c.in_ok-given.given.before c.in_ok-given.given.after c.new-lines.result c.push.new.self c.tell.new.lines c.in_ok-report.field-0 c.told-report.result (c.in_ok-given.ensures.before w.nodes h.nodes) c.in_ok-given.ensures.after c.new-lines.ensures c.in_ok-push.ensures.ok c.in_ok-tell.ensures.tells c.in_ok-report.ensures.ends c.told-report.ensures
+    g.met.S.Schema.laws c.tell.new.self c.in_ok-given.given.before c.in_ok-given.given.after c.new-lines.result c.push.new.self c.push_dropped.new.lines c.tell.new.lines c.in_ok-given.given.answer.dropped c.in_ok-report.field-0 c.told-report.result (c.in_ok-given.ensures.before w.nodes h.nodes) c.in_ok-given.ensures.after c.new-lines.ensures c.in_ok-push.ensures.ok c.in_ok-push_dropped.ensures.pushed (c.in_ok-given.ensures.dropped w.nodes h.nodes) c.in_ok-tell.ensures.tells c.in_ok-report.ensures.ends c.told-report.ensures

@@ -80,6 +80,12 @@ returns-in-Repair-clause-steps g c = played g.S.Row.Crdt.join g.S.Schema.words c
 pub returns-in-Repair-clause-causes : goal.returns-in-Repair-clause-causes
 returns-in-Repair-clause-causes g c = exceeded g.S.Row.Crdt.join g.S.Schema.words c.args.self.now (step.Repair c.in-Repair.node) c.args.step c.in-Repair.is (λ w. tt) c.repair.result c.repair.ensures.causes
 
+pub returns-in-Collect-clause-steps : goal.returns-in-Collect-clause-steps
+returns-in-Collect-clause-steps g c = played g.S.Row.Crdt.join g.S.Schema.words c.args.self.now (step.Collect c.in-Collect.node) c.args.step c.in-Collect.is (λ w. tt) c.local-in-Collect.new.self c.local-in-Collect.result c.local-in-Collect.ensures.plays
+
+pub returns-in-Collect-clause-causes : goal.returns-in-Collect-clause-causes
+returns-in-Collect-clause-causes g c = exceeded g.S.Row.Crdt.join g.S.Schema.words c.args.self.now (step.Collect c.in-Collect.node) c.args.step c.in-Collect.is (λ w. tt) c.local-in-Collect.result c.local-in-Collect.ensures.causes
+
 pub returns-in-Open-clause-steps : goal.returns-in-Open-clause-steps
 returns-in-Open-clause-steps g c = played g.S.Row.Crdt.join g.S.Schema.words c.args.self.now (step.Open c.in-Open.node) c.args.step c.in-Open.is (λ w. tt) c.open.new.self c.open.result c.open.ensures.plays
 
