@@ -39,13 +39,13 @@ use Rattle.store_model.specs.Answers.{lines_of_end}
 use Rattle.store_model.specs.Orders.{buckets_of}
 use Rattle.store_model.specs.declared.event.Event.{Event}
 use Rattle.store_model.specs.declared.event.Event.TheVariants.{Trio, Block, Bucket, Role as Stage, Redundancy, Apply, Tick, Skew, Put, Get, Head, Delete, Copy, List as Keys, Deliver, Lose, Drain, Expire, Restart, Gossip, Ack, Sync, SyncAck, Clean, Work, Repair, Collect}
-use Rattle.store_model.specs.Run.{World, State, start, Asked, Draw, Outcome, silent, refusal, plainly, effect, doing, opened, begins, are_buckets, draws_of, takes, follows, follow, goes_on, delivers, then_drains, drains}
+use Rattle.store_model.specs.Run.{World, State, Asked, Draw, Outcome, silent, refusal, plainly, effect, doing, opened, begins, are_buckets, draws_of, takes, follows, follow, goes_on, delivers, then_drains, drains}
 use Rattle.store_model.specs.Acts.{IsLawfulAct}
 use Rattle.store_model.specs.Events.{Turn, object_bytes, act_of, outcome, outcome_of, after}
 use Rattle.store_model.specs.Turns.{AreLawful}
 use Rattle.text_model.specs.Grammar.{IsAllowed}
 use Rattle.text_model.specs.Played.{AreAllowed}
-use Rattle.audit_model.specs.Printed.{Staged, nothing_staged, stages}
+use Rattle.audit_model.specs.Printed.{Staged, stages}
 use Rattle.audit_model.specs.Audit.{staged_in}
 use Rattle.audit_runs.specs.Alike.{DifferInCut, DifferInCuts}
 use Rattle.audit_runs.specs.Told.{stages_by}
@@ -205,9 +205,6 @@ given_orderly_so s (t ∷ ts) give = (event_orderly s t.numbered.event t.choice 
 -- so do lawful turns of allowed events
 pub turns_orderly : ComputedAreOrderly → EventsStage → StagesInRange → (s : State) (ts : List Turn) → AreLawful s ts → AreAllowed ts → IsStagedInRange (staged_in s) → TellOrderly s ts
 turns_orderly computed stage more s ts lawful allowed staged = given_orderly_so s ts (lawful_give computed stage more s ts lawful allowed staged)
-
-pub start_staged : IsStagedInRange nothing_staged → IsStagedInRange (staged_in start)
-start_staged h = h
 
 -- ---- no cut differs from itself
 

@@ -51,10 +51,6 @@ pub record CutsChangeNone : Type 0 where
 
 -- ---- one more turn
 
-snoc_run : (s : State) (ts : List Turn) (t : Turn) → run s (ts ++ t ∷ []) ≡ after (run s ts) t
-snoc_run s [] t = refl
-snoc_run s (u ∷ us) t = snoc_run (after s u) us t
-
 snoc_text : (s : State) (ts : List Turn) (t : Turn) → turns_text s (ts ++ t ∷ []) ≡ turns_text s ts ++ event_text t.numbered (outcome_of (run s ts) t)
 snoc_text s [] t = append-nil (event_text t.numbered (outcome_of s t))
 snoc_text s (u ∷ us) t =

@@ -24,10 +24,6 @@ is_whole text (inr h) = ap whole h.1 ∙ ends_both true h.0 (10 ∷ [])
 pub both_whole : (a b : List ℕ) → whole a ≡ true → whole b ≡ true → whole (a ++ b) ≡ true
 both_whole a b h k = ends_both true a b ∙ ap (λ t. ends t b) h ∙ k
 
--- what follows a whole text in one is whole
-pub rest_whole : (a b : List ℕ) → whole a ≡ true → whole (a ++ b) ≡ true → whole b ≡ true
-rest_whole a b h k = sym (ap (λ t. ends t b) h) ∙ sym (ends_both true a b) ∙ k
-
 -- a whole text goes on behind a byte that is no line feed
 pub after_byte : (bs : List ℕ) → ends false bs ≡ true → whole bs ≡ true
 after_byte [] h = refl

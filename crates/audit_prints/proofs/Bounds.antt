@@ -10,16 +10,13 @@ use Rattle.layout_roles.specs.declared.role.Role.{Role}
 use Rattle.layout_roles.specs.declared.role.Zone.{Zone}
 use Rattle.layout_roles.specs.declared.role.Kind.{Kind}
 use Rattle.layout_roles.specs.declared.role.Kind.TheVariants.{Storage, Gateway}
-use Rattle.layout_roles.specs.declared.redundancy.Redundancy.{Redundancy}
-use Rattle.layout_roles.specs.declared.redundancy.Redundancy.TheVariants.{AtLeast, Maximum}
-use Rattle.layout_roles.specs.Certificates.{zones_wanted}
 use Rattle.layout_roles.specs.Zones.{is_storage, storage_nodes, bytes_of, capacity_of}
 use Rattle.layout_roles.specs.Fits.{NodeSet, is_storage_node, IsThree, has_node, load, room, partitions, Fits}
 use Rattle.cluster_machine.specs.World.{new_role, staged}
 use Rattle.cluster_machine.specs.Trio.{zone, stage_trio}
 use Rattle.store_model.specs.declared.event.Event.TheVariants as event
 use Rattle.text_model.specs.Grammar.{IsAllowed}
-use Rattle.audit_prints.specs.Roles.{is_bounded, are_bounded, is_meant}
+use Rattle.audit_prints.specs.Roles.{is_bounded, are_bounded}
 
 -- ---- what is staged
 
@@ -107,12 +104,3 @@ size_bounded roles r size (set ∷ sets) some bounded fits =
     first (node ∷ rest) long stored within = size_of_node size ((node ∷ rest) ∷ sets) node (storage_nodes roles) some (counted node rest) within (storage_bounded roles bounded) stored.0
 
 -- ---- redundancies
-
-pub meant_low : (wanted : Redundancy) → is_meant wanted ≡ true → (roles : List Role) → zones_wanted wanted roles ≤ 3
-meant_low (AtLeast r) h roles = leb-true r 3 (and_parts (nat_le 1 r) (nat_le r 3) h).1
-meant_low Maximum h roles = omega arith
-
--- a schedule gives redundancies so
-pub redundancy_given : (wanted : Redundancy) → IsAllowed (event.Redundancy wanted) → is_meant wanted ≡ true
-redundancy_given (AtLeast r) allowed = and_from (nat_le 1 r) (nat_le r 3) (le-leb 1 r allowed.0) (le-leb r 3 allowed.1)
-redundancy_given Maximum allowed = refl

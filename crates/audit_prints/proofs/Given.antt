@@ -1,9 +1,9 @@
 -- The sets that lines give, one line after another.
-use Rattle.std.proofs.Common.{◌≡◌, ◌<◌, ◌≤◌, ℕ, suc, ◌+◌, ◌-◌, Bool, true, false, nat_le, ◌==◌, ◌||◌, ◌&&◌, if◌then◌else◌, replicate, List, [], ◌∷◌, ◌++◌, length, refl, sym, ap, subst, ◌∙◌, arith, append_assoc, append-nil, drop, get_or, eq-eqb, Option, Some, None}
+use Rattle.std.proofs.Common.{◌≡◌, ◌<◌, ◌≤◌, ℕ, suc, ◌+◌, ◌-◌, Bool, true, false, nat_le, ◌==◌, ◌||◌, ◌&&◌, if◌then◌else◌, replicate, List, [], ◌∷◌, ◌++◌, length, refl, sym, ap, subst, ◌∙◌, arith, drop, get_or, eq-eqb, Option, Some, None}
 use Rattle.std.specs.List.{list_any}
 use Rattle.std.specs.Prelude.{IfSome, IfNone}
 use Rattle.std.proofs.lemmas.Bool.{and_from, le-leb}
-use Rattle.std.proofs.lemmas.List.{length-append, length-replicate, drop_more}
+use Rattle.std.proofs.lemmas.List.{drop_more}
 use Rattle.layout_roles.specs.Sets.{in_order}
 use Rattle.layout_roles.specs.Fits.{NodeSet}
 use Rattle.audit_model.specs.declared.said.Said.{Said}
@@ -18,22 +18,8 @@ abbrev pub is_next : List NodeSet → ℕ → ℕ → Bool
 is_next sets first last = (first == length sets) && (nat_le first last && nat_le last 255)
 
 module _ (sets : List NodeSet) (first last : ℕ) (set : ℕ × ℕ × ℕ) (rest : List Said) where
-  -- it isn't: no set more
-  pub sets_over : is_next sets first last ≡ false → with_lines sets (said.Sets first last set ∷ rest) ≡ sets
-  sets_over e =
-      ap (λ b. sets ++ (if b then replicate (suc last - first) (in_order set.0 set.1 set.2) ++ sets_from (suc last) rest else [])) e ∙ append-nil sets
-
   was : is_next sets first last ≡ true → with_lines sets (said.Sets first last set ∷ rest) ≡ sets ++ (replicate (suc last - first) (in_order set.0 set.1 set.2) ++ sets_from (suc last) rest)
   was e = ap (λ b. sets ++ (if b then replicate (suc last - first) (in_order set.0 set.1 set.2) ++ sets_from (suc last) rest else [])) e
-
-  -- it is: these, and those of the lines after it
-  pub sets_on : (new : List NodeSet) → is_next sets first last ≡ true → first ≡ length sets → first ≤ last → new ≡ sets ++ replicate (suc last - first) (in_order set.0 set.1 set.2) →
-      with_lines sets (said.Sets first last set ∷ rest) ≡ with_lines new rest
-  sets_on new e at up is =
-      let run = replicate (suc last - first) (in_order set.0 set.1 set.2) in
-      let long : length new ≡ suc last =
-      ap length is ∙ length-append sets run ∙ ap (λ n. length sets + n) (length-replicate (suc last - first) (in_order set.0 set.1 set.2)) ∙ omega arith in
-      was e ∙ sym (append_assoc sets run (sets_from (suc last) rest)) ∙ (λ i. sym is i ++ sets_from (sym long i) rest)
 
   -- one of them is high
   pub sets_high : is_next sets first last ≡ true → first ≤ last → has_high (in_order set.0 set.1 set.2) ≡ true → list_any has_high (with_lines sets (said.Sets first last set ∷ rest)) ≡ true

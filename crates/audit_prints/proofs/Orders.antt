@@ -4,7 +4,6 @@ use Rattle.std.specs.List.{list_any, IsDistinct}
 use Rattle.std.proofs.lemmas.Bool.{cases_Bool, and_from, ltb-true, lt-ltb, eqb-false, ltb-false}
 use Rattle.layout_roles.specs.Zones.{set_ascends}
 use Rattle.layout_roles.specs.Sets.{put_node, in_order}
-use Rattle.audit_prints.specs.Sets.{has_high}
 
 turned : (a b c : Bool) → (a || (b || c)) ≡ (b || (a || c))
 turned true true c = refl
@@ -20,28 +19,6 @@ any_put p n (first ∷ rest) =
       | true ↦ refl
       | false ↦ ap (λ b. p first || b) (any_put p n rest) ∙ turned (p first) (p n) (list_any p rest)
     ]
-
--- one of three nodes is high where one of their numbers is
-pub high_is : (a b c : ℕ) → has_high (in_order a b c) ≡ (nat_lt 255 c || (nat_lt 255 b || (nat_lt 255 a || false)))
-high_is a b c = any_put (nat_lt 255) c (put_node b (a ∷ [])) ∙ ap (λ t. nat_lt 255 c || t) (any_put (nat_lt 255) b (a ∷ []))
-
-pub high_first : (a b c : ℕ) → 255 < a → has_high (in_order a b c) ≡ true
-high_first a b c h = high_is a b c ∙ by (nat_lt 255 c) (nat_lt 255 b) (nat_lt 255 a) (lt-ltb 255 a h)
-  where
-    by : (x y z : Bool) → z ≡ true → (x || (y || (z || false))) ≡ true
-    by true y z e = refl
-    by false true z e = refl
-    by false false z e = ap (λ t. t || false) e
-
-pub high_second : (a b c : ℕ) → 255 < b → has_high (in_order a b c) ≡ true
-high_second a b c h = high_is a b c ∙ by (nat_lt 255 c) (nat_lt 255 b) (nat_lt 255 a || false) (lt-ltb 255 b h)
-  where
-    by : (x y z : Bool) → y ≡ true → (x || (y || z)) ≡ true
-    by true y z e = refl
-    by false y z e = ap (λ t. t || z) e
-
-pub high_third : (a b c : ℕ) → 255 < c → has_high (in_order a b c) ≡ true
-high_third a b c h = high_is a b c ∙ ap (λ t. t || (nat_lt 255 b || (nat_lt 255 a || false))) (lt-ltb 255 c h)
 
 -- ---- ascending
 

@@ -86,9 +86,3 @@ pub found_lawful : (s : Staged) (k line : ℕ) (o : Option Event) (e : Event) (t
     (shown : Applied) → IsLawful s (printed s.roles size (drop 1 saids)) → Shows s (printed s.roles size (drop 1 saids)) shown → IsFound s k line (print_of s k line o told saids) (found.Lawful shown)
 found_lawful s k line o e told saids r size some is sized shown lawful shows =
     subst (λ (ps : List Print). IsFound s k line ps (found.Lawful shown)) (sym (print_is s k line o e told saids r size some is sized)) (record { staged = refl; place = refl; line_is = refl }, (lawful, shows))
-
--- one that isn't
-pub found_unlawful : (s : Staged) (k line : ℕ) (o : Option Event) (e : Event) (told : Told) (saids : List Said) (r : Option ℕ) (size : ℕ) → o ≡ Some e → r ≡ size_after e told saids → r ≡ Some size →
-    (IsLawful s (printed s.roles size (drop 1 saids)) → ⊥) → IsFound s k line (print_of s k line o told saids) found.Unlawful
-found_unlawful s k line o e told saids r size some is sized unlawful =
-    subst (λ (ps : List Print). IsFound s k line ps found.Unlawful) (sym (print_is s k line o e told saids r size some is sized)) (record { staged = refl; place = refl; line_is = refl }, unlawful)

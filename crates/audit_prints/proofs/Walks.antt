@@ -13,13 +13,13 @@ use Rattle.audit_model.specs.declared.said.Told.{Told}
 use Rattle.audit_model.specs.declared.said.Said.{Said}
 use Rattle.audit_model.specs.declared.said.Said.TheVariants as said
 use Rattle.audit_model.specs.Heard.{event_at}
-use Rattle.audit_model.specs.Printed.{Staged, Print, nothing_staged, stages_if, print_of, prints, all_prints, IsLawfulPrint, IsUnlawful}
+use Rattle.audit_model.specs.Printed.{Staged, Print, nothing_staged, stages_if, print_of, prints, all_prints, IsLawfulPrint}
 use Rattle.audit_prints.specs.declared.sheet.Sheet.{Sheet}
 use Rattle.audit_prints.specs.declared.sheet.Judged.TheVariants as judged
 use Rattle.audit_prints.specs.declared.prints.Found.{Found}
 use Rattle.audit_prints.specs.declared.prints.Found.TheVariants as found
 use Rattle.audit_prints.specs.Sheets.{IsSheetOf, AreSheetsOf, AreJudged}
-use Rattle.audit_prints.specs.Judged.{IsFound, GoesOn, Stops}
+use Rattle.audit_prints.specs.Judged.{IsFound, GoesOn}
 
 -- ---- one event's line
 
@@ -54,15 +54,6 @@ module _ (s : Staged) (line : ℕ) (e : Option Event) (told : Told) (saids : Lis
           let sheet : Sheet = record { line = line; wanted = s.wanted; shown = shown } in
           let sheet_is : IsSheetOf p sheet = record { line = sym h.0.line_is; wanted = ap (λ (x : Staged). x.wanted) (sym h.0.staged); shown = h.1.1 } in
           (lawful_more before p are.0 h.1.0, subst (AreSheetsOf (before ++ p ∷ [])) (sym new_is) (sheets_more before p old sheet are.1 sheet_is))
-      by (p ∷ q ∷ ps) h = absurd h
-
-  -- what is printed isn't lawful
-  pub stops_here : ((k : ℕ) → IsFound s k line (print_of s k line e told saids) found.Unlawful) → Stops s line e told saids
-  stops_here is k before later lawful = by (print_of s k line e told saids) (is k)
-    where
-      by : (ps : List Print) → IsFound s k line ps found.Unlawful → IsUnlawful (before ++ (ps ++ later)) (suc k)
-      by [] h = absurd h
-      by (p ∷ []) h = record { before = before; one = p; later = later; whole = refl; lawful = lawful; unlawful = h.1; place = h.0.place }
       by (p ∷ q ∷ ps) h = absurd h
 
 -- an event that is found is one of the schedule
@@ -118,18 +109,6 @@ module _ (events : List Numbered) (saids : List Said) where
             ∙ (λ j. (walked.before ++ first) ++ prints events (sym staged j) (place j) rest);
         are = on (suc i) walked.before walked.are;
       }
-
-  -- what follows on it isn't lawful
-  pub event_stops : (i : ℕ) (s : Staged) (old : List Sheet) (line : ℕ) (name : List ℕ) (told : Told) → i < length saids → said.Event line name told ≡ get_or saids i (said.Event line name told) →
-      IsWalked events saids i s old → Stops s line (event_at events line name) told (drop (i + 1) saids) → IsUnlawful (all_prints events saids) (i + 2)
-  event_stops i s old line name told inside is walked stops =
-      let e = event_at events line name in
-      let rest = drop (i + 1) saids in
-      let here : drop i saids ≡ said.Event line name told ∷ rest = drop_more saids i (said.Event line name told) inside ∙ ap (λ (x : Said). x ∷ rest) (sym is) in
-      let whole = walked.whole ∙ ap (λ xs. walked.before ++ prints events s (suc i) xs) here in
-      let place : suc (suc i) ≡ i + 2 = omega arith in
-      let found = stops (suc i) walked.before (prints events (stages_if s e told) (suc (suc i)) rest) walked.are.0 in
-      subst (IsUnlawful (all_prints events saids)) place (subst (λ (ps : List Print). IsUnlawful ps (suc (suc i))) (sym whole) found)
 
   -- no other line prints a layout by itself
   passed : (s : Staged) (k : ℕ) (x : Said) (rest : List Said) → ((line : ℕ) (name : List ℕ) (told : Told) → x ≡ said.Event line name told → ⊥) → prints events s k (x ∷ rest) ≡ prints events s (suc k) rest

@@ -17,10 +17,6 @@ UpTo n (schedule es) = AreUpTo n es
 UpTo n (bad_line k) = ⊤
 UpTo n too_many = ⊤
 
-more_up : (m n : ℕ) → m ≤ n → (es : List Numbered) → AreUpTo m es → AreUpTo n es
-more_up m n le [] h = tt
-more_up m n le (e ∷ es) h = let here = h.0 in (omega arith, more_up m n le es h.1)
-
 before_up : (m n : ℕ) → m ≤ n → (e : Event) (rest : Reading) → UpTo n rest → UpTo n (event_before (record { line = m; event = e }) rest)
 before_up m n le e (schedule es) h = (le, h)
 before_up m n le e (bad_line k) h = tt

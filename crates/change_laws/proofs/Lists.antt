@@ -72,10 +72,6 @@ module _ {X : Type 0} where
   one_some P [] x h p = elim h [ ]
   one_some P (y ∷ ys) x h p = elim h [ inl e ↦ inl (subst P (sym e) p) | inr r ↦ inr (one_some P ys x r p) ]
 
-  pub some_of_one : (P : X → Type 0) (xs : List X) → OneOf P xs → SomeOf P xs
-  some_of_one P [] h = elim h [ ]
-  some_of_one P (x ∷ xs) h = elim h [ inl here ↦ inl here | inr there ↦ inr (some_of_one P xs there) ]
-
   pub one_of_some : (P : X → Type 0) (xs : List X) → SomeOf P xs → OneOf P xs
   one_of_some P [] h = elim h [ ]
   one_of_some P (x ∷ xs) h = elim h [ inl here ↦ inl here | inr there ↦ inr (one_of_some P xs there) ]

@@ -15,7 +15,6 @@ use Rattle.cluster_machine.specs.declared.step.Refusal.{Refusal}
 use Rattle.cluster_machine.specs.declared.step.Refusal.TheVariants.{NotMember, VersionTaken, VersionLimit, NoSuchMessage, Lost}
 use Rattle.cluster_machine.specs.Hashes.{RunHashes}
 use Rattle.cluster_machine.specs.Layouts.{Layouts, has_none}
-use Rattle.cluster_machine.specs.Node.{Did}
 use Rattle.cluster_machine.specs.Blocks.{StepBringsBlocks, AllStocked}
 use Rattle.cluster_machine.specs.Receives.{receives}
 use Rattle.cluster_machine.specs.World.{Sent, Mark, World, numbered, clock, is_member_at, forget_delivered}
@@ -187,9 +186,6 @@ module _ {R L : Type 0} (A C : Type 0) (join : R → R → R) (s : Words R) (k :
   still_by : (b : Bool) (d e : Effects R L A C) → IsStill d → IsStill e → IsStill (cond b d e)
   still_by true d e g h = g
   still_by false d e g h = h
-
-  still_did : (w : World R L) (n : ℕ) (d : Did R L) → IsStill (did w n d)
-  still_did w n d = record { passes = refl; skews = refl; opens = refl; closes = refl }
 
   still_chosen : (w : World R L) (n at : ℕ) (choice : Choice L A C) → IsStill (chosen join s k trio trio_roles w n at choice)
   still_chosen w n at (given l shown) = record { passes = refl; skews = refl; opens = refl; closes = refl }

@@ -1,5 +1,5 @@
 -- Collections of delete markers: each in two rounds over nodes 1 to 16, after which the row is dropped.
-use Rattle.std.specs.Prelude.{ℕ, ◌+◌, Bool, true, false, not, ◌&&◌, ◌||◌, ◌==◌, leb, nat_lt, cond, Option, Some, None, is_some, List, [], ◌∷◌, ◌++◌, length}
+use Rattle.std.specs.Prelude.{ℕ, ◌+◌, Bool, false, not, ◌&&◌, ◌||◌, ◌==◌, leb, nat_lt, cond, Option, Some, None, is_some, List, [], ◌∷◌, ◌++◌}
 use Rattle.std.specs.List.{filter, list_all}
 use Rattle.blake2_hash.specs.Blake2b.{blake2b}
 use Rattle.view_model.specs.View.{newest}

@@ -6,7 +6,7 @@ use Rattle.std.proofs.lemmas.Bool.{eqb-true}
 use Rattle.crdt_core.specs.Members.{Has}
 use Rattle.crdt_core.proofs.Each.{all_append}
 use Rattle.blake2_hash.specs.declared.digest.Hash32.{Hash32}
-use Rattle.view_model.specs.View.{View, oldest, newest, merged as merged_views, cleaned}
+use Rattle.view_model.specs.View.{oldest, newest, merged as merged_views, cleaned}
 use Rattle.table_schema.specs.Words.{Words}
 use Rattle.walk_model.specs.Walking.{is_open}
 use Rattle.quorum_model.specs.declared.range.RangeAnswer.{RangeAnswer}

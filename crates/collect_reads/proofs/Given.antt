@@ -9,15 +9,13 @@ use Rattle.table_schema.specs.Words.{Words}
 use Rattle.table_schema.specs.Laws.{Same, Laws}
 use Rattle.table_model.specs.Rows.{rows}
 use Rattle.quorum_model.specs.declared.range.RangeAnswer.{RangeAnswer}
-use Rattle.quorum_model.specs.Answers.{merged}
 use Rattle.quorum_model.specs.Window.{window}
-use Rattle.wire_messages.specs.declared.message.Message.TheVariants.{Row, Rows}
 use Rattle.cluster_machine.specs.Layouts.{Layouts}
-use Rattle.cluster_machine.specs.Node.{Packet, says, Reading, read, scanned, Question, Ended}
+use Rattle.cluster_machine.specs.Node.{Packet, Reading, read, scanned, Question, Ended}
 use Rattle.cluster_machine.specs.Receives.{most_rows}
-use Rattle.cluster_machine.specs.World.{Sent, World, numbered, empty}
+use Rattle.cluster_machine.specs.World.{Sent, numbered, empty}
 use Rattle.cluster_machine.specs.Run.{Move, IsLayout, IsRun, does, run}
-use Rattle.machine_origins.proofs.Good.{IsGood, IsFound, IsObject, Rules, any_rules, found_joined, rows_good, range_good, window_has}
+use Rattle.machine_origins.proofs.Good.{IsFound, IsObject, Rules, any_rules, found_joined, rows_good, range_good, window_has}
 use Rattle.machine_origins.proofs.Sound.{IsAnswer}
 use Rattle.machine_collects.specs.Versions.{Version, Versions, VersionLaws, hour}
 use Rattle.machine_collects.specs.Prompt.{EndInTime, IsPrompt, moments_over}
@@ -25,8 +23,8 @@ use Rattle.machine_collects.specs.Carried.{Carries}
 use Rattle.machine_collects.proofs.Leads.{all_has}
 use Rattle.machine_collects.proofs.Laws.{ends_at, message_clean}
 use Rattle.collect_reads.specs.Clean.{IsNotBelow, GaveNotBelow}
-use Rattle.collect_reads.proofs.Came.{AnyRow, AnyBlock, CameRow, CameAnswer, CameRows, HasEnded, Gives, GivesRow, GivesRows}
-use Rattle.collect_reads.proofs.Stepping.{numbered_some, IsSinceAny, answered, IsAt, from_empty, step_good}
+use Rattle.collect_reads.proofs.Came.{AnyRow, AnyBlock, CameAnswer, CameRows, HasEnded, Gives}
+use Rattle.collect_reads.proofs.Stepping.{numbered_some, IsSinceAny, answered, from_empty, step_good}
 
 module _ {R : Type 0} {join : R → R → R} {s : Words R} {v : Versions R} (laws : Laws join s) (versions : VersionLaws join s v) (key : List ℕ) (u : Version) where
   abbrev Clean : R → Type 0

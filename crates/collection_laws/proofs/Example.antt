@@ -9,7 +9,7 @@ use Rattle.plane_laws.proofs.Sets.{contains_here, contains_there}
 use Rattle.collection_model.specs.Marks.{MarkLaws}
 use Rattle.collection_model.specs.Site.{SiteLaws}
 use Rattle.collection_model.specs.Action.{IsGiven, IsRun, after}
-use Rattle.collection_laws.specs.Example.{one_layout, markers, short, two_nodes, collecting}
+use Rattle.collection_laws.specs.Example.{one_layout, markers, two_nodes, collecting}
 
 differ : {X : Type 0} → false ≡ true → X
 differ e = absurd cc

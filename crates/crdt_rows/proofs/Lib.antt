@@ -1,5 +1,5 @@
 mod Firsts
-mod ObjectFacts
+pub mod ObjectFacts
 mod Older
 mod RowFacts
 mod Said

@@ -1,5 +1,5 @@
 -- Which command words ask for.
-use Rattle.std.proofs.Common.{get_or, String, Global, ◌≡◌, ℕ, ◌≤◌, ◌<◌, ◌+◌, ◌*◌, ◌^◌, ◌⊎◌, inl, inr, Option, Some, None, List, [], ◌∷◌, map, codes, decimal, length, refl, sym, ap, ◌∙◌, subst, arith}
+use Rattle.std.proofs.Common.{get_or, String, Global, ◌≡◌, ℕ, ◌≤◌, ◌<◌, ◌+◌, ◌*◌, ◌^◌, ◌⊎◌, inl, inr, Option, Some, None, List, [], ◌∷◌, map, decimal, length, refl, sym, ap, ◌∙◌, subst, arith}
 use Rattle.std.specs.String.{string_bytes}
 use Rattle.std.proofs.lemmas.Fmt.{decimal_injective}
 use Rattle.lab_main.proofs.ThreeWords.{are_three}
@@ -115,60 +115,6 @@ one_command words (Serve s) Items h k = unlike (Serve s) Items 3115 1107 (ap mar
 one_command words (Serve s) (Workload w) h k = unlike (Serve s) (Workload w) 3115 3119 (ap mark (sym h.spelled ∙ k.spelled)) (inl (omega arith))
 one_command words (Serve s) (Serve t) h k = ap Serve (one_server words s t h k)
 
--- no command has one word but these
-pub none_of_one : (name : List ℕ) → (name ≡ codes "layout" → ⊥) → (name ≡ codes "replay" → ⊥) → (name ≡ codes "audit" → ⊥) → (name ≡ codes "k2v" → ⊥) → (c : Command) → AsksFor (name ∷ []) c → ⊥
-none_of_one name layout replay audit items Layout h = layout (cc)
-none_of_one name layout replay audit items Replay h = replay (cc)
-none_of_one name layout replay audit items Audit h = audit (cc)
-none_of_one name layout replay audit items Items h = items (cc)
-none_of_one name layout replay audit items Moves h = cc
-none_of_one name layout replay audit items Check h = cc
-none_of_one name layout replay audit items (Workload w) h = let is = h.spelled in cc
-none_of_one name layout replay audit items (Serve s) h = let is = h.spelled in cc
-
--- nor two words
-pub none_of_two : (name option : List ℕ) → (name ≡ codes "layout" → option ≡ codes "--moves" → ⊥) → (name ≡ codes "replay" → option ≡ codes "--check" → ⊥) → (c : Command) → AsksFor (name ∷ option ∷ []) c → ⊥
-none_of_two name option moves check Moves h = moves (cc) (cc)
-none_of_two name option moves check Check h = check (cc) (cc)
-none_of_two name option moves check Audit h = cc
-none_of_two name option moves check Items h = cc
-none_of_two name option moves check Layout h = cc
-none_of_two name option moves check Replay h = cc
-none_of_two name option moves check (Workload w) h = let is = h.spelled in cc
-none_of_two name option moves check (Serve s) h = let is = h.spelled in cc
-
--- nor three words that ask for no workload and for no server
-pub none_of_three : (name first second : List ℕ) → ((w : workload_run.Workload) → AsksForWorkload (name ∷ first ∷ second ∷ []) w → ⊥) → ((s : serve_run.Server) → AsksForServer (name ∷ first ∷ second ∷ []) s → ⊥) → (c : Command) → AsksFor (name ∷ first ∷ second ∷ []) c → ⊥
-none_of_three name first second no_workload no_server (Workload w) h = no_workload w h
-none_of_three name first second no_workload no_server (Serve s) h = no_server s h
-none_of_three name first second no_workload no_server Layout h = cc
-none_of_three name first second no_workload no_server Moves h = cc
-none_of_three name first second no_workload no_server Replay h = cc
-none_of_three name first second no_workload no_server Check h = cc
-none_of_three name first second no_workload no_server Audit h = cc
-none_of_three name first second no_workload no_server Items h = cc
-
--- nor any other number of words
-pub none_of_none : (c : Command) → AsksFor [] c → ⊥
-none_of_none Layout h = cc
-none_of_none Moves h = cc
-none_of_none Replay h = cc
-none_of_none Check h = cc
-none_of_none Audit h = cc
-none_of_none Items h = cc
-none_of_none (Workload w) h = let is = h.spelled in cc
-none_of_none (Serve s) h = let is = h.spelled in cc
-
-pub none_of_many : (a b x y : List ℕ) (more : List (List ℕ)) (c : Command) → AsksFor (a ∷ b ∷ x ∷ y ∷ more) c → ⊥
-none_of_many a b x y more Layout h = cc
-none_of_many a b x y more Moves h = cc
-none_of_many a b x y more Replay h = cc
-none_of_many a b x y more Check h = cc
-none_of_many a b x y more Audit h = cc
-none_of_many a b x y more Items h = cc
-none_of_many a b x y more (Workload w) h = let is = h.spelled in cc
-none_of_many a b x y more (Serve s) h = let is = h.spelled in cc
-
 -- words whose bytes ask for this command, or for nothing, are read
 read_as : (words : List (String Global)) (r : Option Command) → Finds (AsksFor (map string_bytes words)) r → AreRead words r
 read_as words None none = none
@@ -197,11 +143,3 @@ two_words words a b r two is0 is1 h = subst (λ (ws : List (String Global)). Are
 pub three_words : (words : List (String Global)) (a b x : String Global) (r : Option Command) → length words ≡ 3 → a ≡ get_or words 0 a → b ≡ get_or words 1 b → x ≡ get_or words 2 x →
     Finds (AsksFor (string_bytes a ∷ string_bytes b ∷ string_bytes x ∷ [])) r → AreRead words r
 three_words words a b x r three is0 is1 is2 h = subst (λ (ws : List (String Global)). AreRead ws r) (sym (are_three words a b x three is0 is1 is2)) (read_as (a ∷ b ∷ x ∷ []) r h)
-
--- no other number of words asks for anything
-pub other_words : (words : List (String Global)) → (length words ≡ 1 → ⊥) → (length words ≡ 2 → ⊥) → (length words ≡ 3 → ⊥) → AreRead words None
-other_words [] one two three = none_of_none
-other_words (x ∷ []) one two three = absurd (one (omega arith))
-other_words (x ∷ y ∷ []) one two three = absurd (two (omega arith))
-other_words (x ∷ y ∷ z ∷ []) one two three = absurd (three (omega arith))
-other_words (x ∷ y ∷ z ∷ w ∷ more) one two three = none_of_many (string_bytes x) (string_bytes y) (string_bytes z) (string_bytes w) (map string_bytes more)

@@ -28,7 +28,7 @@ use Rattle.serve_model.specs.Plain.{Has, row_of, version_in}
 use Rattle.plain_laws.specs.Holds.{row_with}
 use Rattle.plain_laws.proofs.GivenUp.{IsOldRow, old_row}
 use Rattle.plain_laws.proofs.GivenUps.{says_one, IsBeside, IsWith, is_with}
-use Rattle.plain_laws.proofs.ObjectFacts.{facts_joined, facts_decide, newest_is}
+use Rattle.crdt_rows.proofs.ObjectFacts.{facts_joined, facts_decide, newest_is}
 use Rattle.plain_laws.proofs.Past.{Says, own_key, own_facts, not_less, with_one, says_own, alone}
 use Rattle.plain_laws.proofs.Saids.{said_complete}
 use Rattle.held_laws.specs.Looks.{IsSeen}

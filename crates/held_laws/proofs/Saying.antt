@@ -20,7 +20,7 @@ use Rattle.table_schema.specs.Laws.{Same}
 use Rattle.object_schema.specs.Schema.{words}
 use Rattle.machine_origins.proofs.ByOrigin.{IsInherited}
 use Rattle.store_laws.proofs.Objects.{tied_keys, called_other}
-use Rattle.plain_laws.proofs.ObjectFacts.{newest_is}
+use Rattle.crdt_rows.proofs.ObjectFacts.{newest_is}
 
 -- an object's row says something
 abbrev pub SaysSome : AnyRow → Type 0

@@ -20,7 +20,7 @@ use Rattle.k2v_schema.specs.Schema.{words}
 use Rattle.k2v_schema.specs.Laws.{schema_laws}
 use Rattle.k2v_model.specs.declared.order.Ask.TheVariants.{Write, Read}
 use Rattle.k2v_model.specs.Orders.{token_in}
-use Rattle.k2v_model.specs.Run.{ItemRequest, reading, storing, stored, over}
+use Rattle.k2v_model.specs.Run.{ItemRequest, reading, storing, over}
 use Rattle.k2v_model.specs.Owed.{IsWrite, HasRead, Shows, IsReplaced}
 use Rattle.k2v_laws.proofs.Tokens.{max_is, IsTimeOf, token_time}
 
@@ -42,9 +42,6 @@ never_write e = cc
 
 pub storing_row : {r x : K2vRow} → storing r ≡ storing x → r ≡ x
 storing_row e = cc
-
-pub stored_row : {r x : K2vRow} → stored r ≡ stored x → r ≡ x
-stored_row e = cc
 
 pub never_reading : {r : K2vRow} → storing r ≡ reading → ⊥
 never_reading e = cc

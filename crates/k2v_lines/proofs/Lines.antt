@@ -54,22 +54,6 @@ reads_line line ws (Ok e) same h = line_spelled line e (subst (λ (xs : List (Li
 reads_line line ws (Err Outside) same none = λ e h. none e (subst (λ (xs : List (List ℕ)). IsSpelledBy xs e) same (words_taken line e h))
 reads_line line ws (Err Memory) same h = tt
 
--- an event has a word
-some_common : (e : Event) → common_words e ≡ [] → ⊥
-some_common (Role _ None) h = cc
-some_common (Role _ (Some _)) h = cc
-some_common e h = cc
-
-some_words : (e : ItemEvent) → words_of e ≡ [] → ⊥
-some_words (Common e) h = some_common e h
-some_words (Put n i size fill token) h = cc
-some_words (Delete n i token) h = cc
-some_words (Get n i) h = cc
-
-pub no_words : (line : List ℕ) (words : List (Bor (List ℕ))) → texts words ≡ take 9 (words_in line) → length words ≡ 0 → (e : ItemEvent) → Spells line e → ⊥
-no_words line [] same none e h = some_words e (sym (words_taken line e h).spelled ∙ sym same)
-no_words line (w ∷ ws) same none e h = absurd (omega arith)
-
 -- a line whose first word is of no request for an item spells one that schedules of objects have, or none
 module _ (line name : List ℕ) (rest : List (List ℕ)) (same : take 9 (words_in line) ≡ name ∷ rest) (no_put : name ≡ codes "kput" → ⊥) (no_delete : name ≡ codes "kdel" → ⊥) (no_get : name ≡ codes "kget" → ⊥) where
   is_common_one : (e : ItemEvent) → Spells line e → IsCommon line e

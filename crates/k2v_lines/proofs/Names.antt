@@ -1,25 +1,16 @@
 -- A line that schedules of objects have too.
-use Rattle.std.proofs.Common.{◌≡◌, ℕ, true, false, Option, Some, None, List, refl, sym, ◌∙◌, ap, subst}
+use Rattle.std.proofs.Common.{◌≡◌, ℕ, true, false, Some, List, sym, ◌∙◌, ap, subst}
 use Rattle.store_model.specs.declared.event.Event.{Event}
 use Rattle.text_model.specs.Grammar.{Spells as SpellsCommon}
 use Rattle.text_model.proofs.Decided.{spelled_is_read}
-use Rattle.schedule_text.specs.Reads.{Finds}
 use Rattle.k2v_text.specs.declared.event.ItemEvent.{ItemEvent}
 use Rattle.k2v_text.specs.declared.event.ItemEvent.TheVariants.{Common}
 use Rattle.k2v_text.specs.Grammar.{is_common, Spells}
 use Rattle.k2v_lines.specs.Words.{IsCommon}
 
--- the line of an event that both kinds have
-pub common_found : (line : List ℕ) (e : Event) → SpellsCommon line e → is_common e ≡ true → IsCommon line (Common e)
-common_found line e h kind = record { event = e; is = refl; spells = record { spelled = h.spelled; allowed = h.allowed; kind = kind } }
-
 as_common : (line : List ℕ) (x : ItemEvent) → IsCommon line x → (e : Event) × SpellsCommon line e × (is_common e ≡ true)
 as_common line x h =
     let s : Spells line (Common h.event) = subst (Spells line) h.is h.spells in (h.event, record { spelled = s.spelled; allowed = s.allowed }, s.kind)
-
-pub common_none : (line : List ℕ) (o : Option Event) → Finds (SpellsCommon line) o → o ≡ None → (x : ItemEvent) → IsCommon line x → ⊥
-common_none line None none is x h = let c = as_common line x h in none c.0 c.1
-common_none line (Some e) finds is x h = cc
 
 -- a line spells one event
 pub common_other : (line : List ℕ) (e : Event) → SpellsCommon line e → is_common e ≡ false → (x : ItemEvent) → IsCommon line x → ⊥

@@ -2,7 +2,7 @@
 use Rattle.std.specs.Prelude.{◌≡◌, ◌≤◌, ℕ, zero, suc, ⊤, Some, None, List, [], ◌∷◌, map}
 use Rattle.std.specs.List.{AllByRecursion}
 use Rattle.cluster_machine.specs.World.{sent_bytes, undelivered}
-use Rattle.cluster_machine.specs.Worlds.{FitAll, HaveRoom}
+use Rattle.cluster_machine.specs.Worlds.{FitAll}
 use Rattle.cluster_machine.specs.Choices.{Decision}
 use Rattle.store_model.specs.declared.event.Event.TheVariants.{Drain}
 use Rattle.text_model.specs.Played.{sent_limit}

@@ -24,7 +24,7 @@ use Rattle.k2v_model.specs.declared.line.ItemLine.{ItemLine}
 use Rattle.k2v_model.specs.declared.line.ItemLine.TheVariants.{WriteDone, ReadDone}
 use Rattle.k2v_model.specs.Orders.{empty_row}
 use Rattle.k2v_model.specs.Run as model
-use Rattle.k2v_model.specs.Run.{State, Outcome, ItemRequest, silent, plainly, effect, doing, phases, set_stage, token_at, cluster_lines, stores, finishes, writes, values_told, is_deletion, reads_on, follows, follow}
+use Rattle.k2v_model.specs.Run.{State, Outcome, ItemRequest, silent, plainly, effect, doing, set_stage, token_at, cluster_lines, stores, finishes, writes, values_told, is_deletion, reads_on, follows, follow}
 use Rattle.k2v_text.specs.declared.event.ItemTold.{ItemTold}
 use Rattle.world_core.specs.declared.report.Report.{Report}
 use Rattle.world_core.specs.Stands.{StandsFor, Tells as ReportTells, Overflows as WorldOverflows}

@@ -9,12 +9,12 @@ use Rattle.layout_roles.specs.declared.role.Role.{Role}
 use Rattle.layout_roles.specs.declared.redundancy.Redundancy.{Redundancy}
 use Rattle.layout_roles.specs.declared.cut.Cut.{Cut}
 use Rattle.layout_roles.specs.declared.certified.Certified.{Certified}
-use Rattle.layout_roles.specs.Zones.{nodes_ascend, is_numbered, Name, capacity_of, is_storage, name_of, same_name, storage_nodes, zone_names, zones}
+use Rattle.layout_roles.specs.Zones.{nodes_ascend, is_numbered, capacity_of, is_storage, name_of, same_name, storage_nodes, zone_names, zones}
 use Rattle.layout_roles.specs.Fits.{room, NoneFits}
 use Rattle.layout_roles.specs.Network.{vertices}
 use Rattle.layout_roles.specs.Certificates.{IsPrintedCut, IsRedundancy, zones_wanted, AreEnough, IsCertified, ShowsNone}
 use Rattle.layout_flow.specs.Closed.{copies_for, columns, printed_side}
-use Rattle.layout_flow.specs.Totals.{total, copies_in}
+use Rattle.layout_flow.specs.Totals.{copies_in}
 use Rattle.layout_flow.proofs.Sums.{sum_by-below}
 use Rattle.layout_flow.proofs.Zones.{sum_by_zones, zone_once}
 use Rattle.layout_flow.proofs.Whole.{Laid, laid, copies_row, none_fits, Shown, shown}

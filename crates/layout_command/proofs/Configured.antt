@@ -1,10 +1,10 @@
 -- Each input has a stated answer: roles that are read are in order, so something is computed from them.
-use Rattle.std.proofs.Common.{◌≡◌, ℕ, ◌<◌, ◌≤◌, ℤ, pos, negsuc, Bool, true, false, IsTrue, List, [], ◌∷◌, ◌++◌, codes, Option, Some, None, Result, Ok, Err, option_map, option_and_then, nat_le, length, refl, sym, ap, ◌∙◌, subst, arith, leb-true}
+use Rattle.std.proofs.Common.{◌≡◌, ℕ, ◌<◌, ◌≤◌, ℤ, pos, negsuc, Bool, true, false, IsTrue, List, [], ◌∷◌, ◌++◌, codes, Option, Some, None, Result, Ok, Err, option_map, option_and_then, nat_le, length, refl, ap, ◌∙◌, subst, arith, leb-true}
 use Rattle.std.specs.List.{list_all}
 use Rattle.std.specs.Prelude.{IsUtf8}
 use Rattle.std.specs.Option.{ok_or}
 use Rattle.std.specs.Str.{is_utf8}
-use Rattle.std.proofs.lemmas.Bool.{and_parts, cases_Bool}
+use Rattle.std.proofs.lemmas.Bool.{and_parts}
 use Rattle.std.proofs.lemmas.Str.{IsUtf8-from_is_utf8, is_utf8-from_IsUtf8}
 use Rattle.toml.specs.Data.{Data, string, Members, as_integer, get_member}
 use Rattle.toml.specs.Parse.{parse_document}
@@ -18,10 +18,9 @@ use Rattle.layout_roles.specs.Certificates.{IsRedundancy}
 use Rattle.layout_roles.specs.Text.{cut_lines, layout_text}
 use Rattle.layout_text.specs.declared.config.FieldName.{FieldName}
 use Rattle.layout_text.specs.declared.config.FieldName.TheVariants as field
-use Rattle.layout_text.specs.declared.config.ConfigFault.{ConfigFault}
-use Rattle.layout_text.specs.declared.config.ConfigFault.TheVariants.{NotToml, Field, Memory}
+use Rattle.layout_text.specs.declared.config.ConfigFault.TheVariants.{NotToml}
 use Rattle.layout_roles.specs.Names.{is_between}
-use Rattle.layout_text.specs.Values.{keep_if, between, read_or, number_in, redundancy_of, redundancy_in, nodes_in}
+use Rattle.layout_text.specs.Values.{keep_if, between, read_or, redundancy_of, redundancy_in, nodes_in}
 use Rattle.layout_text.specs.Settings.{◌>>=◌, needed, put_role, role_in, roles_in, roles_for, buckets_for, block_size_for, Settings, settings_in, faulted, said}
 use Rattle.layout_text.proofs.Roles.{IsNew, role_is_new, ascend_put, numbered_put}
 use Rattle.layout_command.specs.Answer.{greatest_node, nodes_line, zones_line, none_line, zones_for, toml_line, field_line, IsLaidOut, few_nodes, few_zones, none, layout, IsAnswer, not_text, not_toml, bad_field, laid_out}

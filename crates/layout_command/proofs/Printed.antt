@@ -1,5 +1,5 @@
 -- What Done says, and how the command ends.
-use Rattle.std.proofs.Common.{◌≡◌, ℕ, ◌⊎◌, inl, Option, Some, None, List, refl, sym, ◌∙◌, subst, Ok}
+use Rattle.std.proofs.Common.{◌≡◌, ℕ, ◌⊎◌, Option, List, sym, ◌∙◌, subst, Ok}
 use Rattle.std.specs.Prelude.{IsUtf8}
 use Rattle.lab_outside.specs.declared.ports.Source as source
 use Rattle.lab_outside.specs.declared.ports.Sink as sink

@@ -1,6 +1,5 @@
 -- What a greatest flow answers.
-use Rattle.std.specs.Prelude.{◌≡◌, ℕ, List}
-use Rattle.std.specs.List.{filter}
+use Rattle.std.specs.Prelude.{◌≡◌}
 use Rattle.layout_roles.specs.declared.assignment.Assignment.{Assignment}
 use Rattle.layout_flow.specs.declared.answer.FlowOrCut.{FlowOrCut}
 use Rattle.layout_roles.specs.declared.cut.Cut.{Cut as TheCut}

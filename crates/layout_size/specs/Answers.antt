@@ -1,5 +1,5 @@
 -- What is asked for, and what is answered.
-use Rattle.std.specs.Prelude.{ℕ, ◌≡◌, ◌+◌, ◌<◌, ◌≤◌, min, length, List}
+use Rattle.std.specs.Prelude.{ℕ, ◌≡◌, ◌+◌, ◌<◌, ◌≤◌, List}
 use Rattle.layout_roles.specs.declared.role.Role.{Role}
 use Rattle.layout_roles.specs.declared.cut.Cut.{Cut}
 use Rattle.layout_roles.specs.Certificates.{ShowsNone}

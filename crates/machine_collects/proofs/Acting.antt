@@ -2,7 +2,7 @@
 use Rattle.std.specs.Prelude.{◌≡◌, ◌≢◌, ◌≤◌, ◌+◌, ℕ, suc, Bool, true, false, not, cond, ◌==◌, leb, nat_lt, List, [], ◌∷◌, ◌++◌, Option, None, IsTrue, map, refl}
 use Rattle.std.specs.List.{AllByRecursion, list_all}
 use Rattle.std.proofs.Common.{ap, sym, subst, ◌∙◌, inl, inr, arith}
-use Rattle.std.proofs.lemmas.Bool.{eq-eqb, ne_eqb, cases_eq, not-false, eqb-true, leb-true}
+use Rattle.std.proofs.lemmas.Bool.{eq-eqb, ne_eqb, cases_eq, leb-true}
 use Rattle.crdt_core.specs.Members.{Has}
 use Rattle.crdt_core.proofs.Each.{all_append, all_weaker}
 use Rattle.control_model.specs.World as control
@@ -17,7 +17,7 @@ use Rattle.wire_messages.specs.declared.message.Message.TheVariants.{Store, Stor
 use Rattle.plane_model.specs.Control.{led_to}
 use Rattle.plane_meets.specs.Joint.{seen}
 use Rattle.collection_model.specs.Action as act
-use Rattle.collection_model.specs.Action.{run, step, Happens, Stays, IsGiven}
+use Rattle.collection_model.specs.Action.{run, step, Happens, Stays}
 use Rattle.collection_laws.proofs.Sound.{IsSound}
 use Rattle.cluster_machine.specs.Layouts.{Layouts, is_given, stored_sets}
 use Rattle.cluster_machine.specs.Node.{Node, Did, quiet}
@@ -29,7 +29,7 @@ use Rattle.cluster_machine.specs.Step.{Effects, changed, applied}
 use Rattle.machine_laws.specs.Follows.{Controlled}
 use Rattle.machine_laws.proofs.Rounding.{Goes}
 use Rattle.machine_collects.specs.Versions.{Version, Versions, VersionLaws, hour, is_of}
-use Rattle.machine_collects.specs.Tie.{State, Issued, IsOf, IsBrought, IsStored, IsNoObject, IsCollected, Means, IsNode, IsTied, with_read, rows_read}
+use Rattle.machine_collects.specs.Tie.{State, Issued, IsOf, IsStored, IsCollected, Means, IsNode, IsTied, with_read, rows_read}
 use Rattle.machine_collects.proofs.OfKey.{of_test, test_of, row_kept, row_gone}
 use Rattle.machine_collects.proofs.Growth.{Act, Grew, grew_run, Later, SameAt, later_self, same_self, same_for_at, open_stays}
 use Rattle.machine_collects.proofs.Leads.{Place, IsCalm, calm_run, Leads, by_node, moved, stays}

@@ -19,7 +19,7 @@ use Rattle.gc_model.specs.Collecting.{Open, numbered, end_of, end_at, told, chan
 use Rattle.quorum_model.specs.Quorum.{is_among}
 use Rattle.collection_model.specs.World.{Begun, Ready}
 use Rattle.collection_model.specs.Action as act
-use Rattle.collection_model.specs.Action.{run, step, Happens, IsWitness, MayEnd}
+use Rattle.collection_model.specs.Action.{run, MayEnd}
 use Rattle.collection_laws.proofs.Sound.{IsSound}
 use Rattle.cluster_machine.specs.Layouts.{Layouts}
 use Rattle.cluster_machine.specs.Node.{Node, Did, quiet}

@@ -2,7 +2,7 @@
 use Rattle.std.specs.Prelude.{◌≡◌, ◌≢◌, ◌⊎◌, ◌≤◌, ℕ, suc, Bool, true, false, not, cond, ◌==◌, ◌&&◌, List, [], ◌∷◌, ◌++◌, length, Option, Some, None, is_some, map, refl}
 use Rattle.std.specs.List.{AllByRecursion}
 use Rattle.std.proofs.Common.{ap, sym, subst, ◌∙◌, inl, inr, arith}
-use Rattle.std.proofs.lemmas.Bool.{eq-eqb, ne_eqb, eqb-true, eqb-false, cases_eq, and_parts, true≢false}
+use Rattle.std.proofs.lemmas.Bool.{eq-eqb, eqb-true, and_parts, true≢false}
 use Rattle.crdt_core.specs.Members.{Has}
 use Rattle.crdt_core.proofs.Each.{all_append, all_weaker}
 use Rattle.control_model.specs.World as control
@@ -17,7 +17,7 @@ use Rattle.gc_model.specs.Collecting.{Open, numbered, has_confirmed, confirmed_c
 use Rattle.quorum_model.specs.Quorum.{is_among}
 use Rattle.collection_model.specs.World.{Begun, Witness, Ready}
 use Rattle.collection_model.specs.Action as act
-use Rattle.collection_model.specs.Action.{run, step, Happens, IsWitness, MayEnd}
+use Rattle.collection_model.specs.Action.{run, Happens, IsWitness, MayEnd}
 use Rattle.collection_laws.proofs.Sound.{IsSound}
 use Rattle.cluster_machine.specs.Layouts.{Layouts}
 use Rattle.cluster_machine.specs.Node.{Did, quiet}

@@ -1,6 +1,6 @@
 -- A node begins to collect, and goes on with its collections.
-use Rattle.std.specs.Prelude.{◌≡◌, ◌≢◌, ◌⊎◌, ◌≤◌, ◌<◌, ◌+◌, ℕ, suc, Bool, true, false, not, cond, ◌==◌, ◌&&◌, List, [], ◌∷◌, ◌++◌, length, Option, Some, None, is_some, IsTrue, filter, map, refl, ⊤}
-use Rattle.std.specs.List.{AllByRecursion, find}
+use Rattle.std.specs.Prelude.{◌≡◌, ◌≢◌, ◌⊎◌, ◌≤◌, ◌<◌, ◌+◌, ℕ, Bool, true, false, not, cond, ◌==◌, ◌&&◌, List, [], ◌∷◌, ◌++◌, length, Option, Some, None, is_some, IsTrue, map, refl, ⊤}
+use Rattle.std.specs.List.{AllByRecursion}
 use Rattle.std.proofs.Common.{ap, sym, subst, ◌∙◌, inl, inr, arith}
 use Rattle.std.proofs.lemmas.Bool.{eq-eqb, ne_eqb, eqb-true, eqb-false, cases_eq, and_parts, true≢false}
 use Rattle.crdt_core.specs.Members.{Has}
@@ -15,7 +15,7 @@ use Rattle.gc_model.specs.declared.collection.Collection.{Collection}
 use Rattle.gc_model.specs.Collecting.{changed as changed_in, closed}
 use Rattle.collection_model.specs.World.{Begun, Second}
 use Rattle.collection_model.specs.Action as act
-use Rattle.collection_model.specs.Action.{run, step, Happens, IsWitness, MayEnd}
+use Rattle.collection_model.specs.Action.{run, step, Happens, IsWitness}
 use Rattle.collection_laws.proofs.Sound.{IsSound}
 use Rattle.cluster_machine.specs.Layouts.{Layouts}
 use Rattle.cluster_machine.specs.Node.{Node}
@@ -32,13 +32,13 @@ use Rattle.machine_collects.proofs.Growth.{Act, Grew, grew_run, grew_self, later
 use Rattle.machine_collects.proofs.Leads.{Place, IsCalm, Leads, all_has}
 use Rattle.machine_collects.proofs.Sends.{MeansPost, means_each, all_filter, read_back}
 use Rattle.machine_collects.proofs.Hearing.{row_place}
-use Rattle.machine_collects.proofs.Doing.{IsDid, did_leads}
-use Rattle.machine_collects.proofs.Acting.{acts_with, after_moves, acts_lead, stay_all}
+use Rattle.machine_collects.proofs.Doing.{IsDid}
+use Rattle.machine_collects.proofs.Acting.{after_moves, acts_lead, stay_all}
 use Rattle.machine_collects.proofs.Tombs.{same_are, are_same}
 use Rattle.machine_collects.proofs.Forgetting.{spelled_some}
-use Rattle.machine_collects.proofs.Listed.{has_map, map_has, map_length, length_last, different_last, given_has, given_none, is_some_none, one_answer, among_has, told_same, find_passes, find_none, one_collection, changed_different, fewer_different, all_changed}
+use Rattle.machine_collects.proofs.Listed.{map_has, different_last, find_passes, one_collection, changed_different, fewer_different, all_changed}
 use Rattle.std.specs.Prelude.{leb, nat_lt}
-use Rattle.std.specs.List.{All, list_all}
+use Rattle.std.specs.List.{All}
 use Rattle.std.proofs.lemmas.Bool.{leb-true}
 use Rattle.std.proofs.lemmas.List.Elements.{All-from_recursion}
 use Rattle.table_model.specs.Rows.{rows}

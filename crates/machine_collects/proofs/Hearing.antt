@@ -25,7 +25,7 @@ use Rattle.cluster_machine.specs.Rounds.{walk_at, found_same, walks_after, value
 use Rattle.walk_model.specs.Walking.{is_open}
 use Rattle.cluster_machine.specs.Receives.{most_rows, answers, where_stored, gives_row, gives_rows, gives_block, compares, walks_on, round_came, is_done, kept_item, item_came, confirms}
 use Rattle.machine_collects.specs.Versions.{Versions}
-use Rattle.machine_collects.specs.Tie.{State, Issued, IsOf, IsNoObject}
+use Rattle.machine_collects.specs.Tie.{State, Issued, IsNoObject}
 use Rattle.machine_collects.proofs.OfKey.{at_parts, some_is}
 use Rattle.machine_collects.proofs.Still.{Calm, calm_self}
 use Rattle.machine_collects.proofs.Sends.{Of, MeansPost, range_own, walk_sends}

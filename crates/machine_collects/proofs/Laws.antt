@@ -21,7 +21,7 @@ use Rattle.cluster_machine.specs.World.{Sent, World, empty}
 use Rattle.cluster_machine.specs.Run.{Move, IsLayout, does, next, run as run_moves, IsRun}
 use Rattle.machine_collects.specs.Versions.{Version, Versions, VersionLaws, hour, marks}
 use Rattle.machine_collects.specs.Prompt.{ArePrompt, IsPrompt, moments_after}
-use Rattle.machine_collects.specs.Tie.{State, Issued, IsOf, IsCollected, Means, MeansPacket, MeansMessage, IsTied}
+use Rattle.machine_collects.specs.Tie.{State, IsOf, IsCollected, Means, MeansPacket, MeansMessage}
 use Rattle.machine_collects.specs.Carried.{Carries}
 use Rattle.machine_collects.proofs.OfKey.{test_of, row_of}
 use Rattle.machine_collects.proofs.Marking.{site_laws, marker_of, marker_parts}

@@ -1,5 +1,5 @@
 -- Steps in which no node takes or drops a row: the node that sends shows its row of now.
-use Rattle.std.specs.Prelude.{◌≡◌, ◌≢◌, ◌⊎◌, ◌≤◌, ◌+◌, ℕ, Bool, true, false, cond, List, [], ◌∷◌, ◌++◌, Option, Some, None, refl, ⊤}
+use Rattle.std.specs.Prelude.{◌≡◌, ◌≢◌, ◌⊎◌, ◌≤◌, ◌+◌, ℕ, List, [], ◌∷◌, ◌++◌, Option, Some, None, refl, ⊤}
 use Rattle.std.specs.List.{AllByRecursion}
 use Rattle.std.proofs.Common.{ap, sym, subst, ◌∙◌, inl, inr, arith}
 use Rattle.crdt_core.specs.Members.{Has}
@@ -12,7 +12,7 @@ use Rattle.gc_model.specs.Collecting.{Open}
 use Rattle.plane_model.specs.Control.{led_to}
 use Rattle.plane_meets.specs.Joint.{seen}
 use Rattle.collection_model.specs.Action as act
-use Rattle.collection_model.specs.Action.{Action, step, run, Happens}
+use Rattle.collection_model.specs.Action.{step, run, Happens}
 use Rattle.collection_laws.proofs.Sound.{IsSound}
 use Rattle.collection_laws.proofs.Laws.{happens_append, run_append}
 use Rattle.cluster_machine.specs.Layouts.{Layouts}
@@ -21,7 +21,7 @@ use Rattle.cluster_machine.specs.World.{World}
 use Rattle.cluster_machine.specs.Step.{Effects, changed, skewed, applied}
 use Rattle.machine_laws.proofs.Rounding.{Goes}
 use Rattle.machine_collects.specs.Versions.{Version, Versions, hour}
-use Rattle.machine_collects.specs.Tie.{State, Issued, IsOf, IsShown, IsNoObject, IsCollected, Means, IsNode, IsTied}
+use Rattle.machine_collects.specs.Tie.{State, Issued, IsNoObject, IsCollected, Means, IsNode, IsTied}
 use Rattle.machine_collects.proofs.OfKey.{some_is}
 use Rattle.machine_collects.proofs.Growth.{Act, Grew, grew_run, later_self, same_self, node_stays}
 use Rattle.machine_collects.proofs.Leads.{Place, IsCalm, calm_run, Leads, by_nodes, moved, stays}

@@ -1,7 +1,7 @@
 -- Every step of a prompt run leads on, and so does every prompt run.
 use Rattle.std.specs.Prelude.{◌≡◌, ◌⊎◌, ◌≤◌, ◌<◌, ◌+◌, ℕ, suc, Bool, true, false, not, cond, ◌==◌, ◌&&◌, leb, List, [], ◌∷◌, ◌++◌, length, Option, Some, None, IsTrue, map, refl}
 use Rattle.std.specs.Option.{unwrap_or}
-use Rattle.std.specs.List.{AllByRecursion, list_all, flat_map, filter}
+use Rattle.std.specs.List.{AllByRecursion}
 use Rattle.std.proofs.Common.{ap, sym, subst, ◌∙◌, inl, inr, arith}
 use Rattle.std.proofs.lemmas.Bool.{leb-false}
 use Rattle.crdt_core.specs.Members.{Has}
@@ -32,14 +32,14 @@ use Rattle.cluster_machine.specs.Receives.{hears, receives}
 use Rattle.cluster_machine.specs.Acts.{Acted, acts, appends, restarts, unconfirmed}
 use Rattle.cluster_machine.specs.Collects.{all_nodes}
 use Rattle.cluster_machine.specs.World.{Sent, Mark, Request, World, numbered, clock, empty}
-use Rattle.cluster_machine.specs.Step.{Choice, given, none_given, Effects, nothing, refusal, only, did, received, at_message, expires, closing, chosen, applies_at, trio_applies, acting, begun, beginning, opening, effects, changed, applied}
+use Rattle.cluster_machine.specs.Step.{Choice, given, none_given, Effects, nothing, refusal, only, did, at_message, expires, closing, chosen, applies_at, trio_applies, acting, begun, beginning, effects, changed, applied}
 use Rattle.cluster_machine.specs.Run.{Move, IsLayout, does, next, run as run_moves, IsRun}
 use Rattle.machine_laws.proofs.Rounding.{Goes}
 use Rattle.machine_laws.proofs.Runs.{goes, all_numbered}
 use Rattle.machine_collects.specs.Versions.{Version, Versions, VersionLaws, hour}
 use Rattle.machine_collects.specs.Prompt.{ComesInTime, BeginsInTime, IsPromptStep, ArePrompt, moments_after}
 use Rattle.machine_collects.specs.Tie.{State, Issued, none_issued, IsOf, IsNoObject, Means, MeansPacket, MeansMessage, IsNode, IsTied}
-use Rattle.machine_collects.proofs.Growth.{Act, Grew, grew_run, grew_self, later_self, same_self}
+use Rattle.machine_collects.proofs.Growth.{Act, grew_run, later_self, same_self}
 use Rattle.machine_collects.proofs.Leads.{Place, Leads, by_nodes, moved, stays, reached_of}
 use Rattle.machine_collects.proofs.Still.{Calm, calm_self, quiet_leads, acts_of}
 use Rattle.machine_collects.proofs.Sends.{MeansPost, means_each, starts_mean, items_mean}

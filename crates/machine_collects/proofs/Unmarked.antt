@@ -1,5 +1,5 @@
 -- Where no row has a delete marker alone no collection ever begins, so nothing is collected, whichever nodes are told to.
-use Rattle.std.specs.Prelude.{◌≡◌, ℕ, suc, ◌+◌, Bool, true, false, not, cond, ◌&&◌, ◌==◌, leb, List, [], ◌∷◌, ◌++◌, Option, Some, None, is_some, map, nat_eq, refl, ⊤}
+use Rattle.std.specs.Prelude.{◌≡◌, ℕ, suc, ◌+◌, Bool, true, false, not, cond, ◌&&◌, ◌==◌, leb, List, [], ◌∷◌, ◌++◌, Option, Some, None, is_some, nat_eq, refl, ⊤}
 use Rattle.std.specs.List.{AllByRecursion, find, filter}
 use Rattle.std.specs.Option.{unwrap_or}
 use Rattle.std.specs.Cmp.Lexicographic.{pointwise}
@@ -17,20 +17,20 @@ use Rattle.cluster_machine.specs.declared.step.Step.{Step}
 use Rattle.cluster_machine.specs.declared.step.Step.TheVariants.{Trio, Role as Stage, Redundancy as Spread, Apply, Tick, Skew, Deliver, Lose, Expire, Restart, Gossip, Ack, Sync as Syncs, SyncAck, Clean, Work, Repair, Collect, Open, Phase as Begin, Close}
 use Rattle.cluster_machine.specs.declared.step.Action.{Action}
 use Rattle.cluster_machine.specs.declared.step.Action.TheVariants.{Ack as RaiseAck, Sync as GoOn, SyncAck as RaiseSyncAck, Clean as CleanUp, Work as WorkOff, Repair as Mend, Collect as Gather}
-use Rattle.cluster_machine.specs.declared.step.Refusal.TheVariants.{VersionTaken, VersionLimit, NotMember, NoSuchMessage, Lost, NoSuchRequest, AlreadyEnded}
+use Rattle.cluster_machine.specs.declared.step.Refusal.TheVariants.{VersionTaken, NotMember, Lost, AlreadyEnded}
 use Rattle.cluster_machine.specs.Layouts.{Layouts, is_member, has_none}
-use Rattle.cluster_machine.specs.Node.{Call, Node, shows, Did, quiet}
-use Rattle.cluster_machine.specs.Phases.{opened, closed, to_each, bytes_of, is_spelled, call_at, begins}
+use Rattle.cluster_machine.specs.Node.{Call, Node}
+use Rattle.cluster_machine.specs.Phases.{closed, to_each, bytes_of, is_spelled, call_at, begins}
 use Rattle.cluster_machine.specs.Receives.{receives}
 use Rattle.cluster_machine.specs.Collects.{others, is_aged, Progress, object_rows, begins_one, about, about_all, with_rows, progress, collects}
-use Rattle.cluster_machine.specs.Acts.{Acted, acts, appends, restarts}
+use Rattle.cluster_machine.specs.Acts.{acts, appends, restarts}
 use Rattle.cluster_machine.specs.World.{Sent, Mark, Request, World, numbered, clock, empty}
-use Rattle.cluster_machine.specs.Step.{most_versions, Choice, given, none_given, Effects, nothing, refusal, only, did, received, at_message, expires, closing, chosen, applies_at, trio_applies, acting, begun, beginning, opening, effects}
+use Rattle.cluster_machine.specs.Step.{most_versions, Choice, given, none_given, Effects, nothing, refusal, only, did, received, at_message, expires, closing, chosen, applies_at, trio_applies, acting, begun, beginning, effects}
 use Rattle.cluster_machine.specs.Run.{Move, next, run}
 use Rattle.machine_laws.proofs.Runs.{all_numbered}
 use Rattle.machine_collects.specs.Without.{IsBare}
 use Rattle.machine_collects.proofs.Without.{AreBareSent, Bare, BareStep, bare_acting, bare_effects}
-use Rattle.machine_collects.proofs.Opened.{IsElse, receives_same, acts_same, begins_same}
+use Rattle.machine_collects.proofs.Opened.{receives_same, acts_same, begins_same}
 use Rattle.crdt_core.proofs.Each.{all_append}
 
 -- a node has no open collection

@@ -1,5 +1,5 @@
 -- A delete marker on three nodes, which node 1 collects in two rounds over nodes 1 to 16.
-use Rattle.std.specs.Prelude.{ℕ, Some, None, List, [], ◌∷◌, ◌++◌}
+use Rattle.std.specs.Prelude.{ℕ, Some, List, [], ◌∷◌, ◌++◌}
 use Rattle.table_schema.specs.Words.{Words}
 use Rattle.cluster_machine.specs.declared.step.Step.TheVariants.{Trio, Tick, Collect, Open, Phase as Begin}
 use Rattle.cluster_machine.specs.World.{World}

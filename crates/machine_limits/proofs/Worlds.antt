@@ -36,7 +36,7 @@ use Rattle.cluster_machine.specs.Worlds.{Model, Doing, Done, IsSound, does, next
 use Rattle.cluster_machine.proofs.Closing.{length_shut}
 use Rattle.machine_origins.specs.Origins.{stored_by}
 use Rattle.machine_origins.proofs.Lists.{all_filter, all_numbered, all_found}
-use Rattle.machine_origins.proofs.Sound.{Asks, IsSent, IsNode, Leads, led}
+use Rattle.machine_origins.proofs.Sound.{Asks, IsSent, led}
 use Rattle.machine_origins.proofs.Sound as origin
 use Rattle.machine_origins.proofs.Beginning.{BeginsPlaced}
 use Rattle.machine_origins.proofs.Steps.{leads}

@@ -23,7 +23,7 @@ use Rattle.walk_model.specs.Walking.{is_open}
 use Rattle.cluster_machine.specs.Phases.{call_at, row_came, rows_came, stored_came, block_came, at_call}
 use Rattle.cluster_machine.specs.Rows.{same_bytes, block_at, accepts_all}
 use Rattle.cluster_machine.specs.Receives.{answers, where_stored, gives_block, takes, compared, compares, walks_on, round_came, is_done, kept_item, item_came, confirms, hears, receives}
-use Rattle.cluster_machine.specs.Rounds.{is_complete, rows_at, walk_at, walks_of, walks_after, found_same, walk_after, asked_after, sends_after, other_nodes, parts_of, synced, goes_on, may_sync, begin_round, round_walks, mending_walks, at_walk, mending_came, with_mending, with_lasting, late_came, answer_came, new_walks, walked_anew}
+use Rattle.cluster_machine.specs.Rounds.{is_complete, walk_at, walks_of, walks_after, found_same, walk_after, asked_after, other_nodes, parts_of, synced, goes_on, may_sync, begin_round, round_walks, mending_walks, at_walk, mending_came, with_mending, with_lasting, late_came, answer_came, new_walks, walked_anew}
 use Rattle.cluster_machine.specs.Acts.{Acted, syncs, acts}
 use Rattle.machine_origins.proofs.Lists.{all_found}
 use Rattle.machine_origins.proofs.Good.{IsFound, Rules, row_found}

@@ -6,13 +6,12 @@ use Rattle.std.proofs.Common.{ap, sym, subst, ◌∙◌, inl, inr, arith}
 use Rattle.std.proofs.lemmas.Bool.{eqb-true, eq-eqb}
 use Rattle.crdt_core.specs.EntryLaws.{and_parts, and_both}
 use Rattle.crdt_core.specs.Laws.{JoinLaws}
-use Rattle.crdt_core.specs.Order.{option_join}
 use Rattle.layout_trackers.specs.declared.which.Which.TheVariants.{Sync}
 use Rattle.view_model.specs.View.{oldest, newest, read_version, layout_at, with_entry}
 use Rattle.control_model.specs.World as control
 use Rattle.control_model.specs.Steps.{Step, step as turn, may_begin}
 use Rattle.crdt_core.specs.Members.{Has, OneOf}
-use Rattle.table_schema.specs.Words.{Words, partition_of}
+use Rattle.table_schema.specs.Words.{Words}
 use Rattle.table_schema.specs.Laws.{Laws}
 use Rattle.table_model.specs.Rows.{rows}
 use Rattle.cluster_machine.specs.Phases.{is_spelled}
@@ -26,24 +25,21 @@ use Rattle.plane_model.specs.Action.{moves, begins_round, finishes, step, run, H
 use Rattle.plane_laws.proofs.Runs.{run_append, happens_append, run_extends}
 use Rattle.plane_laws.proofs.Sets.{contains_here, contains_none}
 use Rattle.plane_laws.proofs.Sound.{IsSound}
-use Rattle.plane_laws.proofs.Rows.{at_least_right}
 use Rattle.plane_model.specs.Rows.{IsAtLeast}
 use Rattle.plane_meets.proofs.Quiet.{quiet_happens}
 use Rattle.cluster_machine.specs.Layouts.{Layouts, set_in}
 use Rattle.cluster_machine.specs.Node as machine
 use Rattle.cluster_machine.specs.Node.{Part, Walk, Confirmed, Node, Post}
-use Rattle.cluster_machine.specs.Rounds.{numbered_from, is_complete, is_empty, rows_at, has_rows, walks_of, other_nodes, sets_in, parts_of, starts, begin_round, repairs}
+use Rattle.cluster_machine.specs.Rounds.{numbered_from, is_complete, is_empty, rows_at, has_rows, walks_of, other_nodes, parts_of, begin_round, repairs}
 use Rattle.cluster_machine.specs.World.{World}
 use Rattle.cluster_machine.specs.Step.{did}
 use Rattle.machine_laws.proofs.Controls.{Turns}
 use Rattle.machine_laws.proofs.Requests.{one_turns}
 use Rattle.machine_laws.proofs.Rounding.{node_after, one_then, completed, complete_is, with_round, round_is, said_starts, unseen_repairs}
 use Rattle.machine_laws.proofs.Turning.{said_known}
-use Rattle.machine_reads.specs.Places.{Place, keys, place_of, at_place}
+use Rattle.machine_reads.specs.Places.{Place, keys, at_place}
 use Rattle.machine_reads.specs.Tie.{Issued, Begun, a_round, a_repair, both, State, HasBase, GivesNext, HadThere, IsConfirmed, Means, IsRound, IsPart, IsWalk, IsNode, IsTied}
-use Rattle.machine_reads.proofs.Placed.{keys_laws}
-use Rattle.machine_reads.proofs.Pairs.{filtered}
-use Rattle.machine_reads.proofs.Growth.{Grown, SameAt, base_grows, mending_stays, round_in_stays}
+use Rattle.machine_reads.proofs.Growth.{Grown, SameAt, mending_stays, round_in_stays}
 use Rattle.machine_reads.proofs.Leads.{Issues, rounded, rounded_here, rounded_other, over_issues, Act, grown, Leads, by_node}
 use Rattle.machine_reads.proofs.Sees.{contains_among, among_contains, newest_same, read_same, read_set_same, set_at_same}
 use Rattle.machine_reads.proofs.Called.{quietly}

@@ -2,7 +2,7 @@
 use Rattle.std.specs.Prelude.{◌≡◌, ◌≤◌, ℕ, suc, Bool, true, false, cond, ◌==◌, Some, option_map, List, [], ◌∷◌, ◌++◌, length, map, filter, IsTrue, refl}
 use Rattle.std.specs.List.{Contains, AllByRecursion, list_all}
 use Rattle.std.proofs.Common.{ap, sym, subst, ◌∙◌, inl, inr, arith}
-use Rattle.std.proofs.lemmas.Bool.{eqb-true, eq-eqb, ne_eqb, true≢false}
+use Rattle.std.proofs.lemmas.Bool.{eqb-true, eq-eqb, true≢false}
 use Rattle.crdt_core.specs.EntryLaws.{and_parts}
 use Rattle.crdt_core.specs.Laws.{JoinLaws}
 use Rattle.crdt_core.specs.Order.{option_join}
@@ -35,7 +35,7 @@ use Rattle.machine_laws.proofs.Rounding.{speaks, some_same, completed, complete_
 use Rattle.machine_laws.proofs.Requests.{one_turns}
 use Rattle.layout_trackers.specs.declared.which.Which.TheVariants.{Sync}
 use Rattle.machine_reads.specs.Places.{Place, keys, place_of, at_place}
-use Rattle.machine_reads.specs.Tie.{Issued, Begun, a_round, a_repair, both, State, with_read, rows_read, placed, IsAllGone, IsConfirmed, MeansPushed, Means, IsRound, IsRoundIn, IsTied}
+use Rattle.machine_reads.specs.Tie.{Issued, a_round, a_repair, both, State, with_read, rows_read, placed, IsAllGone, IsConfirmed, MeansPushed, Means, IsRound, IsRoundIn, IsTied}
 use Rattle.machine_reads.proofs.Placed.{rows_at_place, kept_at_place}
 use Rattle.machine_reads.proofs.Growth.{Grown, same_at, call_stays, mending_stays}
 use Rattle.machine_reads.proofs.Leads.{issues_self, rounded, rounded_here, rounded_other, over_issues, Act, grown, Leads, by_node}

@@ -1,6 +1,6 @@
 -- What a node does for walks: it answers another's question, and goes on or ends after an answer.
-use Rattle.std.specs.Prelude.{◌≡◌, ◌≢◌, ◌≤◌, ◌<◌, ◌⊎◌, ℕ, suc, ◌+◌, nat_eq, Bool, true, false, not, cond, ◌==◌, ◌&&◌, ◌||◌, nat_lt, Option, Some, None, List, [], ◌∷◌, ◌++◌, length, map, filter, IsTrue, refl}
-use Rattle.std.specs.List.{Contains, AllByRecursion, list_all, list_any, starts_with, find}
+use Rattle.std.specs.Prelude.{◌≡◌, ◌≢◌, ◌≤◌, ◌<◌, ◌⊎◌, ℕ, suc, ◌+◌, Bool, true, false, not, cond, ◌==◌, ◌&&◌, ◌||◌, nat_lt, Option, Some, None, List, [], ◌∷◌, ◌++◌, length, map, filter, refl}
+use Rattle.std.specs.List.{Contains, AllByRecursion, list_all, find}
 use Rattle.std.proofs.Common.{ap, sym, subst, ◌∙◌, inl, inr, arith}
 use Rattle.std.proofs.lemmas.Bool.{eq-eqb, ltb-false}
 use Rattle.blake2_hash.specs.Blake2b.{blake2b}

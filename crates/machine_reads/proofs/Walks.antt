@@ -26,7 +26,7 @@ use Rattle.wire_messages.specs.declared.message.Tag.{Tag}
 use Rattle.wire_messages.specs.declared.message.Tag.TheVariants.{Call as ForCall, Round as ForRound, Item as ForItem}
 use Rattle.plane_model.specs.Rows.{IsAtLeast}
 use Rattle.plane_model.specs.World as plane
-use Rattle.plane_model.specs.World.{row_at as log_at, row_in}
+use Rattle.plane_model.specs.World.{row_at as log_at}
 use Rattle.plane_model.specs.Kept.{IsGone}
 use Rattle.plane_laws.proofs.Sound.{IsSound}
 use Rattle.plane_laws.proofs.Steps.{has_still}

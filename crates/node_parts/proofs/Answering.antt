@@ -19,8 +19,8 @@ use Rattle.node_parts.specs.declared.walks.Answer.{Answer}
 use Rattle.node_parts.specs.declared.walks.Walks.{Walks}
 use Rattle.node_parts.specs.Contents.{IsContents}
 use Rattle.node_parts.specs.Posts.{Posts}
-use Rattle.node_parts.specs.Sends.{Sends, Asks, Pushes, Walked, WalksOn, CannotWalk, WalkedLate, WalksLate, CannotWalkLate}
-use Rattle.node_parts.specs.Walks.{children_of, awaiting, awaiting_in, is_spelled_at, asked_by, WentOn, Tell, Lacks, TakesAnswer, CannotTake, idle, outcome, outcome_of}
+use Rattle.node_parts.specs.Sends.{Sends, Asks, Pushes, Walked, WalksOn, CannotWalk, WalkedLate, WalksLate}
+use Rattle.node_parts.specs.Walks.{children_of, awaiting, awaiting_in, is_spelled_at, asked_by, WentOn, Tell, TakesAnswer, idle, outcome, outcome_of}
 use Rattle.node_parts.proofs.Posting.{posts_none}
 use Rattle.node_parts.proofs.PlacedWalks.{found_at}
 
@@ -125,14 +125,6 @@ module _ {R : Type 0} (join : R → R → R) (s : Words R) where
         | Some w ↦ (λ e t. let at = awaits_at a walks w e in walked_end sender c new a old_out new_out is_same x walks sends end w at.0 at.1 t sent)
       ] refl (takes x walks sends.is are)
 
-  -- it can't be taken in
-  pub cannot_walk : {S : Type 0} (sender : Sender) (c : Contents S R) (old : Walks) (a : Answer) → CannotTake join s c old a → CannotWalk join s sender c old a
-  cannot_walk sender c old a cannot x walks sends are =
-      elim (awaiting_in a walks) as (λ o. Lacks join s x o → (outcome_of join s x sender.round a walks o).is_spelled ≡ false) [
-        | None ↦ (λ l. absurd l)
-        | Some w ↦ (λ l. l)
-      ] (cannot x walks sends.is are)
-
   -- after a walk told what it did some row has no spelling
   pub cannot_send : {S : Type 0} (sender : Sender) (c : Contents S R) (old new : Walks) (a : Answer) (end : WalkEnd) → TakesAnswer join s c old new a (Some end) → ((x : Node R Layout) → IsContents join s c x → is_spelled_at join s x a.p ≡ false) → CannotWalk join s sender c old a
   cannot_send sender c old new a end takes lacks x walks sends are =
@@ -148,14 +140,6 @@ module _ {R : Type 0} (join : R → R → R) (s : Words R) where
   none_late sender c a out x None sends are = record { mending = tt; posts = posts_none sender.node out; taken_is = refl; spelled = refl }
   none_late sender c a out x (Some m) sends are = absurd are
 
-  -- it has another number
-  pub other_late : {S : Type 0} (sender : Sender) (c : Contents S R) (d : Mended) (a : Answer) (out : List (Envelope R)) → (d.number == sender.round) ≡ false → WalksLate join s sender c (Some d) (Some d) a out out false
-  other_late sender c d a out other x None sends are = absurd are
-  other_late sender c d a out other x (Some m) sends are =
-      let e : (m.number == sender.round) ≡ false = ap (λ n. n == sender.round) (sym are.number) ∙ other in
-      subst (λ b. WalkedLate join s sender (Some d) out out false (Some m) (cond b (outcome join s x sender.round a m.walks) (idle m.walks))) (sym e)
-      (record { mending = are; posts = posts_none sender.node out; taken_is = sym e; spelled = refl })
-
   -- the answer is for it
   pub late_walked : {S : Type 0} (sender : Sender) (c : Contents S R) (d : Mended) (new : Walks) (a : Answer) (old_out new_out : List (Envelope R)) (is_same : Bool) → (d.number == sender.round) ≡ true → WalksOn join s sender c d.walks new a old_out new_out is_same →
       WalksLate join s sender c (Some d) (Some (record d { walks = new })) a old_out new_out true
@@ -165,9 +149,3 @@ module _ {R : Type 0} (join : R → R → R) (s : Words R) where
       let w = walks x m.walks sends are.walks in
       subst (λ b. WalkedLate join s sender (Some (record d { walks = new })) old_out new_out true (Some m) (cond b (outcome join s x sender.round a m.walks) (idle m.walks))) (sym e)
       (record { mending = record { number = are.number; walks = w.walks }; posts = w.posts; taken_is = sym e; spelled = w.spelled })
-
-  pub cannot_late : {S : Type 0} (sender : Sender) (c : Contents S R) (d : Mended) (a : Answer) → (d.number == sender.round) ≡ true → CannotWalk join s sender c d.walks a → CannotWalkLate join s sender c (Some d) a
-  cannot_late sender c d a mine cannot x None sends are = absurd are
-  cannot_late sender c d a mine cannot x (Some m) sends are =
-      let e : (m.number == sender.round) ≡ true = ap (λ n. n == sender.round) (sym are.number) ∙ mine in
-      ap (λ b. (cond b (outcome join s x sender.round a m.walks) (idle m.walks)).is_spelled) e ∙ cannot x m.walks sends are.walks

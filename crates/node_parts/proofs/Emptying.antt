@@ -1,5 +1,5 @@
 -- The open partitions of a round of which the node has no rows any more: all their nodes confirm them.
-use Rattle.std.proofs.Common.{◌≡◌, ℕ, ◌+◌, ◌<◌, Bool, true, false, not, cond, List, [], ◌∷◌, ◌++◌, map, length, get_or, take, flat_map, refl, sym, ap, subst, ◌∙◌, append-nil, append_assoc}
+use Rattle.std.proofs.Common.{◌≡◌, ℕ, ◌+◌, ◌<◌, Bool, true, false, not, cond, List, [], ◌∷◌, ◌++◌, map, flat_map, refl, sym, ap, subst, ◌∙◌, append-nil}
 use Rattle.std.specs.List.{filter}
 use Rattle.layout_roles.specs.declared.layout.Layout.{Layout}
 use Rattle.table_schema.specs.Words.{Words}
@@ -10,11 +10,9 @@ use Rattle.cluster_machine.specs.Rounds.{is_empty, has_rows, open_nodes, confirm
 use Rattle.node_parts.specs.declared.contents.Contents.{Contents}
 use Rattle.node_parts.specs.declared.rounds.Moving.{Moving}
 use Rattle.node_parts.specs.Contents.{IsContents}
-use Rattle.node_parts.specs.Rounds.{IsMoving, confirmed_round, confirmed_all, has_any, open_parts_of, Empties}
+use Rattle.node_parts.specs.Rounds.{IsMoving, confirmed_all, has_any, open_parts_of, Empties}
 use Rattle.node_parts.specs.Walks.{has_tables}
-use Rattle.node_parts.proofs.SendingItems.{flat_more}
 use Rattle.node_parts.proofs.Spelled.{has_both}
-use Rattle.node_parts.proofs.WalkSends.{map_next}
 
 -- ---- nodes that confirm, one after the other
 
@@ -27,14 +25,6 @@ ConfirmedSome old new p nodes = (node : ℕ) (r : Moved) → IsMoving node old r
 
 pub none_confirmed : (m : Moving) (p : ℕ) → ConfirmedSome m m p []
 none_confirmed m p node r is = subst (λ cs. IsMoving node m (record r { confirmed = cs })) (sym (append-nil r.confirmed)) is
-
-pub one_confirmed : (old mid new : Moving) (p : ℕ) (nodes : List ℕ) (i d : ℕ) → i < length nodes → ConfirmedSome old mid p (take i nodes) → ((node : ℕ) (r : Moved) → IsMoving node mid r → IsMoving node new (confirmed_round r p (get_or nodes i d))) →
-    ConfirmedSome old new p (take (i + 1) nodes)
-one_confirmed old mid new p nodes i d lt f g node r is =
-    subst (λ cs. IsMoving node new (record r { confirmed = cs }))
-    (append_assoc r.confirmed (by_nodes p (take i nodes)) (record { partition = p; node = get_or nodes i d } ∷ [])
-    ∙ ap (λ l. r.confirmed ++ l) (sym (map_next (λ n. record { partition = p; node = n }) nodes i d lt)))
-    (g node (confirmed_all r p (take i nodes)) (f node r is))
 
 -- the code's pairs that pass, one way and the other
 pub filter_map_same : {A : Type 0} (f : A → ℕ × List ℕ) (test : ℕ × List ℕ → Bool) (items : List A) → map f (filter (λ i. test (f i)) items) ≡ filter test (map f items)
@@ -55,29 +45,6 @@ module _ {R : Type 0} (join : R → R → R) (s : Words R) where
   -- of the first of these partitions those that have no rows are confirmed
   abbrev pub EmptiedSome : {S : Type 0} → Contents S R → Moving → Moving → List (ℕ × List ℕ) → Type 0
   EmptiedSome c old new parts = (node : ℕ) (r : Moved) → IsMoving node old r → IsMoving node new (record r { confirmed = r.confirmed ++ flat_map (gone_in c) parts })
-
-  pub none_emptied : {S : Type 0} (c : Contents S R) (m : Moving) → EmptiedSome c m m []
-  none_emptied c m node r is = subst (λ cs. IsMoving node m (record r { confirmed = cs })) (sym (append-nil r.confirmed)) is
-
-  pub one_emptied : {A S : Type 0} (f : A → ℕ × List ℕ) (c : Contents S R) (old mid new : Moving) (parts : List A) (i : ℕ) (d part : A) → i < length parts → part ≡ get_or parts i d → has_tables s (rows_in s (f part).0 c.table) ≡ false →
-      EmptiedSome c old mid (map f (take i parts)) → ConfirmedSome mid new (f part).0 (f part).1 → EmptiedSome c old new (map f (take (i + 1) parts))
-  one_emptied f c old mid new parts i d part lt at none so confirms node r is =
-      let more : map f (take (i + 1) parts) ≡ map f (take i parts) ++ f part ∷ [] = map_next f parts i d lt ∙ (λ j. map f (take i parts) ++ f (sym at j) ∷ []) in
-      subst (λ cs. IsMoving node new (record r { confirmed = cs }))
-      (append_assoc r.confirmed (flat_map (gone_in c) (map f (take i parts))) (by_nodes (f part).0 (f part).1)
-      ∙ ap (λ l. r.confirmed ++ (flat_map (gone_in c) (map f (take i parts)) ++ l)) (ap (λ b. cond b [] (by_nodes (f part).0 (f part).1)) (sym none))
-      ∙ ap (λ l. r.confirmed ++ l) (sym (flat_more (gone_in c) (map f (take i parts)) (f part)) ∙ ap (flat_map (gone_in c)) (sym more)))
-      (confirms node (record r { confirmed = r.confirmed ++ flat_map (gone_in c) (map f (take i parts)) }) (so node r is))
-
-  pub one_filled : {A S : Type 0} (f : A → ℕ × List ℕ) (c : Contents S R) (old new : Moving) (parts : List A) (i : ℕ) (d part : A) → i < length parts → part ≡ get_or parts i d → has_tables s (rows_in s (f part).0 c.table) ≡ true →
-      EmptiedSome c old new (map f (take i parts)) → EmptiedSome c old new (map f (take (i + 1) parts))
-  one_filled f c old new parts i d part lt at some so node r is =
-      let more : map f (take (i + 1) parts) ≡ map f (take i parts) ++ f part ∷ [] = map_next f parts i d lt ∙ (λ j. map f (take i parts) ++ f (sym at j) ∷ []) in
-      subst (λ cs. IsMoving node new (record r { confirmed = r.confirmed ++ cs }))
-      (sym (append-nil (flat_map (gone_in c) (map f (take i parts))))
-      ∙ ap (λ l. flat_map (gone_in c) (map f (take i parts)) ++ l) (ap (λ b. cond b [] (by_nodes (f part).0 (f part).1)) (sym some))
-      ∙ sym (flat_more (gone_in c) (map f (take i parts)) (f part)) ∙ ap (flat_map (gone_in c)) (sym more))
-      (so node r is)
 
   -- ---- all open partitions
 

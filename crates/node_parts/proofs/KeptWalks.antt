@@ -18,7 +18,7 @@ use Rattle.node_parts.specs.declared.walks.Answer.{Answer}
 use Rattle.node_parts.specs.declared.walks.NodeWalk.{NodeWalk}
 use Rattle.node_parts.specs.declared.walks.Walks.{Walks}
 use Rattle.node_parts.specs.Contents.{IsContents}
-use Rattle.node_parts.specs.Walks.{AreWalks, walk_in, walk_of, walk_cmp, has_ended, awaiting, awaiting_in, asked_by, state_after, Tell, Lacks, IsSpelled, LacksSpelling, GoesOn}
+use Rattle.node_parts.specs.Walks.{AreWalks, walk_in, walk_of, walk_cmp, has_ended, awaiting, awaiting_in, asked_by, state_after, Tell, IsSpelled, GoesOn}
 use Rattle.node_parts.proofs.PlacedWalks.{same_place, found_at, taken_out, put_in, renewed_at}
 
 abbrev pub as_walk : ℕ → Walking → Walk
@@ -178,8 +178,3 @@ module _ {R : Type 0} (join : R → R → R) (s : Words R) where
             ] refl);
         spelled = spelled x is;
       })
-
-  -- it can't go on where some row has no spelling
-  pub lacks_some : {S : Type 0} (c : Contents S R) (old : Walks) (a : Answer) (x : Node R Layout) (walks : List Walk) (state : Walking) → IsContents join s c x → AreWalks old walks →
-      get walk_cmp old.by_place (a.p, a.from) ≡ Some state → is_open a.table a.prefix.now state.prefixes ≡ true → LacksSpelling join s c state.partition → Lacks join s x (awaiting_in a walks)
-  lacks_some c old a x walks state is are some opened lacks = subst (λ o. Lacks join s x o) (sym (awaits_there a old walks state true are some opened)) (lacks x is)

@@ -28,7 +28,6 @@ use Rattle.node_parts.specs.Posts.{Posts}
 use Rattle.node_parts.specs.Sends.{part_of, found_in, rows_with_blocks, Began, Sends, Sent, Pushes, Starts, CannotStart}
 use Rattle.node_parts.specs.Walks.{walk_of, is_spelled_at, LacksSpelling}
 use Rattle.node_parts.proofs.Posting.{posts_more}
-use Rattle.node_parts.proofs.SendingItems.{flat_more}
 
 -- what follows from a cause follows from each error
 pub causes_more : {P Q : Type 0} (e : Memory) → (P → Q) → (e ≡ Want) ⊎ ((e ≡ Full) × P) → (e ≡ Want) ⊎ ((e ≡ Full) × Q)
@@ -37,9 +36,6 @@ causes_more e f (inr h) = inr (h.0, f h.1)
 
 pub map_next : {A B : Type 0} (f : A → B) (xs : List A) (i : ℕ) (d : A) → i < length xs → map f (take (i + 1) xs) ≡ map f (take i xs) ++ f (get_or xs i d) ∷ []
 map_next f xs i d lt = ap (map f) (take_more xs i d lt) ∙ map-append f (take i xs) (get_or xs i d ∷ [])
-
-pub flat_next : {A B : Type 0} (f : A → List B) (xs : List A) (i : ℕ) (d : A) → i < length xs → flat_map f (take (i + 1) xs) ≡ flat_map f (take i xs) ++ f (get_or xs i d)
-flat_next f xs i d lt = ap (flat_map f) (take_more xs i d lt) ∙ flat_more f (take i xs) (get_or xs i d)
 
 flat_append : {A B : Type 0} (f : A → List B) (xs ys : List A) → flat_map f (xs ++ ys) ≡ flat_map f xs ++ flat_map f ys
 flat_append f [] ys = refl

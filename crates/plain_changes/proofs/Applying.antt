@@ -1,5 +1,5 @@
 -- A cluster that stands on a layout comes to the next one: an apply at a member isn't refused.
-use Rattle.std.specs.Prelude.{◌≡◌, ◌<◌, ℕ, suc, Bool, true, false, cond, not, ◌&&◌, leb, List, [], ◌∷◌, ◌++◌, refl}
+use Rattle.std.specs.Prelude.{◌≡◌, ◌<◌, ℕ, suc, Bool, true, false, cond, not, ◌&&◌, leb, [], ◌∷◌, ◌++◌, refl}
 use Rattle.std.specs.List.{AllByRecursion}
 use Rattle.std.proofs.Common.{ap, sym, ◌∙◌, arith}
 use Rattle.std.proofs.lemmas.Bool.{lt-leb}
@@ -22,7 +22,6 @@ use Rattle.serve_changes.specs.Acts.{change_acts}
 use Rattle.serve_changes.specs.Changing.{Change, acts_in}
 use Rattle.plain_changes.specs.Changed.{staged}
 use Rattle.plain_changes.specs.Standing.{Standing, IsStaging, acts_of}
-use Rattle.plain_changes.proofs.Acted.{in_world}
 use Rattle.plain_changes.proofs.Staged.{IsStaged, acts_staged}
 
 and_false : (b : Bool) → (b && false) ≡ false

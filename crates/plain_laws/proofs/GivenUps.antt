@@ -26,7 +26,7 @@ use Rattle.crdt_rows.specs.ObjectRow.{object_key, object_join, newest}
 use Rattle.crdt_rows.specs.State.{state_cmp, is_aborted}
 use Rattle.crdt_rows.specs.Version.{version_cmp}
 use Rattle.crdt_rows.specs.Versions.{greatest_ts as greatest_of}
-use Rattle.plain_laws.proofs.ObjectFacts.{facts_joined, key_joined, newest_is}
+use Rattle.crdt_rows.proofs.ObjectFacts.{facts_joined, key_joined, newest_is}
 use Rattle.object_origins.proofs.Given.{entries_found}
 use Rattle.flow_model.specs.declared.flow.Name.{Name}
 use Rattle.flow_model.specs.declared.flow.Content.{Content}
@@ -39,7 +39,7 @@ use Rattle.plain_laws.specs.Holds.{GaveUp, given_up_at, row_with, IsGivenUp}
 use Rattle.plain_laws.proofs.Entries.{names_equal}
 use Rattle.plain_laws.proofs.GivenUp.{IsOldRow, old_row}
 use Rattle.plain_laws.proofs.Ordered.{turned_name}
-use Rattle.plain_laws.proofs.Past.{Says, own_key, same_state, with_one, says_own, alone, entry_there, IsPast, ArePast}
+use Rattle.plain_laws.proofs.Past.{Says, own_key, same_state, with_one, says_own, alone, entry_there, ArePast}
 use Rattle.plain_laws.proofs.Saids.{said_complete, ts_of_row}
 use Rattle.plain_laws.proofs.Smalls.{before_by, below_by}
 

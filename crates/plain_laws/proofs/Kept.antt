@@ -1,11 +1,10 @@
 -- An upload whose bytes all came and which is kept, by a cluster that holds a map: it ends as the map's put of these bytes.
-use Rattle.std.proofs.Common.{◌≡◌, ◌<◌, ◌≤◌, ◌^◌, ℕ, true, false, Some, None, List, [], ◌∷◌, ◌++◌, length, refl, sym, ap, ◌∙◌, subst, inr, arith}
+use Rattle.std.proofs.Common.{◌≡◌, ◌<◌, ◌≤◌, ◌^◌, ℕ, true, false, List, [], ◌∷◌, ◌++◌, length, refl, sym, ap, ◌∙◌, subst, inr, arith}
 use Rattle.std.specs.Prelude.{◌==◌, if◌then◌else◌}
 use Rattle.std.specs.List.{Contains}
 use Rattle.std.proofs.lemmas.Bool.{eq-eqb, le-leb}
 use Rattle.layout_roles.specs.declared.layout.Layout.{Layout}
 use Rattle.crdt_rows.specs.declared.version.Version.{Version}
-use Rattle.cluster_machine.specs.World.{undelivered}
 use Rattle.flow_model.specs.declared.order.Order.{Order}
 use Rattle.flow_model.specs.declared.order.Order.TheVariants as order
 use Rattle.flow_model.specs.declared.flow.Name.{Name}
@@ -21,19 +20,19 @@ use Rattle.flow_model.specs.Rows.{row_key}
 use Rattle.flow_model.specs.Flow.{asks_for, started}
 use Rattle.store_model.specs.Fresh.{NoClash}
 use Rattle.store_model.specs.Run.{State, are_buckets}
-use Rattle.store_model.specs.Acts.{Act, ActsFit, after_acts}
+use Rattle.store_model.specs.Acts.{Act, ActsFit}
 use Rattle.store_laws.proofs.Placing.{asks_is_step}
 use Rattle.serve_model.specs.declared.upload.Upload.{Upload}
-use Rattle.serve_model.specs.Stores.{Job, keep, stream_of, order_of_job, Carried}
+use Rattle.serve_model.specs.Stores.{Job, keep, stream_of}
 use Rattle.serve_model.specs.Clusters.{Cluster, cluster, carried_acts, streamed, round, fits}
-use Rattle.serve_model.specs.Plain.{Plain, object, has_at, at_time, counted, tells, version_of, writes, answered, done_for, AreApart}
+use Rattle.serve_model.specs.Plain.{Plain, object, has_at, at_time, counted, tells, writes, answered, done_for, AreApart}
 use Rattle.serve_model.proofs.Blocks.{piece_of_kept}
 use Rattle.plain_laws.specs.Holds.{Holds, IsGone}
 use Rattle.plain_laws.specs.Blocks.{IsBlockAt}
 use Rattle.plain_laws.proofs.Jobs.{put_of}
 use Rattle.plain_laws.proofs.Keeping.{Follows}
 use Rattle.plain_laws.proofs.Seeking.{a_row}
-use Rattle.plain_laws.proofs.Starting.{number, reading_state, opened_is, starts}
+use Rattle.plain_laws.proofs.Starting.{number, opened_is, starts}
 use Rattle.plain_laws.proofs.Carrying.{now, asker_now, asker_is, holding_now, row_now, asked_state, has_key, number_fits, done_state, done_fits, worked_state, worked_fits}
 use Rattle.plain_laws.proofs.Followed.{kept_before, agrees_refused, serves_so, rows_so}
 use Rattle.plain_laws.proofs.Answering.{one_bucket, row_there}

@@ -1,5 +1,5 @@
 -- Jobs whose upload is left: the cluster gives it up, and holds the same map, as the map's job says.
-use Rattle.std.proofs.Common.{◌≡◌, ◌≤◌, ◌<◌, ◌*◌, ℕ, true, false, List, [], length, take, refl, ap, inr, arith}
+use Rattle.std.proofs.Common.{◌≡◌, ◌≤◌, ◌<◌, ◌*◌, ℕ, true, false, List, [], length, refl, ap, inr, arith}
 use Rattle.std.specs.Prelude.{◌==◌, if◌then◌else◌, ⊤}
 use Rattle.std.proofs.lemmas.List.{length-take}
 use Rattle.flow_model.specs.declared.order.Order.TheVariants as order
@@ -18,10 +18,10 @@ use Rattle.plain_laws.specs.Blocks.{IsBlockAt}
 use Rattle.plain_laws.proofs.Jobs.{put_of}
 use Rattle.plain_laws.proofs.Keeping.{Follows}
 use Rattle.plain_laws.proofs.Starting.{number}
-use Rattle.plain_laws.proofs.Carrying.{now, asked_state, has_key, number_fits, all_fit, worked_state}
+use Rattle.plain_laws.proofs.Carrying.{now, asked_state, has_key, number_fits, all_fit}
 use Rattle.plain_laws.proofs.Followed.{kept_before, agrees_refused, serves_so}
-use Rattle.plain_laws.proofs.LeftBytes.{taken, padded, comes_whole, begins_within, there_taken, size_is, piece_is}
-use Rattle.plain_laws.proofs.LeftHolding.{IsServed, left_served}
+use Rattle.plain_laws.proofs.LeftBytes.{padded, comes_whole, begins_within, there_taken, size_is, piece_is}
+use Rattle.plain_laws.proofs.LeftHolding.{left_served}
 
 -- an upload that is left: it is to be, or too few or too many bytes came, or none is to come at all
 abbrev pub IsLeftOff : Job → Type 0

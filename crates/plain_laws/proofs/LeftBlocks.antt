@@ -16,14 +16,13 @@ use Rattle.crdt_rows.specs.AnyRow.{any_join}
 use Rattle.crdt_rows.specs.RowLaws.{any_laws}
 use Rattle.object_schema.specs.Schema.{words}
 use Rattle.object_schema.specs.Laws.{schema_laws, key_parts}
-use Rattle.table_model.specs.Rows.{AllProper, is_at, row_at}
+use Rattle.table_model.specs.Rows.{is_at, row_at}
 use Rattle.quorum_model.specs.Quorum.{is_among}
 use Rattle.wire_messages.specs.declared.phase.Phase.TheVariants.{Store}
-use Rattle.wire_messages.specs.declared.phase.PhaseEnd.TheVariants.{Row, Kept}
 use Rattle.cluster_machine.specs.Blocks.{IsBeside, BringsBlocks}
 use Rattle.cluster_machine.specs.Layouts.{layouts}
 use Rattle.cluster_machine.specs.Node.{Item, Present}
-use Rattle.cluster_machine.specs.Rows.{block_at, called_for}
+use Rattle.cluster_machine.specs.Rows.{called_for}
 use Rattle.cluster_machine.specs.Run.{IsLayout, IsStep}
 use Rattle.cluster_machine.specs.World.{undelivered}
 use Rattle.cluster_machine.specs.Worlds.{FitAll}
@@ -32,11 +31,10 @@ use Rattle.flow_model.specs.declared.flow.Name.{Name}
 use Rattle.flow_model.specs.declared.flow.Content.{Content}
 use Rattle.flow_model.specs.declared.flow.Flow.{Flow}
 use Rattle.flow_model.specs.declared.flow.FlowEnd.TheVariants.{Aborted}
-use Rattle.flow_model.specs.declared.flow.FlowStep.TheVariants.{More}
 use Rattle.flow_model.specs.Blocks.{piece, piece_hash, has_piece, is_long}
 use Rattle.flow_model.specs.Next.{drawn}
 use Rattle.flow_model.specs.Rows.{row_key, uploading, version_row, reference_row, block_rows}
-use Rattle.flow_model.specs.Streams.{Step, fed}
+use Rattle.flow_model.specs.Streams.{Step}
 use Rattle.flow_laws.specs.Streams.{receiving, needing}
 use Rattle.flow_laws.proofs.Streaming.{fed_next}
 use Rattle.store_model.specs.Run.{State, phases, drains, need_at}
@@ -46,12 +44,12 @@ use Rattle.drained_laws.specs.Accounts.{Brings, IsDue, IsAccounted}
 use Rattle.drained_laws.specs.Drained.{AreEqual, accepted_in}
 use Rattle.drained_laws.specs.Waiting.{SomeOf, Has as IsIn, waiting}
 use Rattle.drained_laws.proofs.Drained.{equal_when_drained}
-use Rattle.drained_laws.proofs.Waits.{some_left, some_right, all_has}
+use Rattle.drained_laws.proofs.Waits.{some_right}
 use Rattle.drained_laws.proofs.Weights.{none_waits}
 use Rattle.plain_laws.specs.Holds.{nodes_at}
 use Rattle.plain_laws.proofs.Accepted.{IsRowOrApart, not_at, becomes, becomes_either, passed}
 use Rattle.plain_laws.proofs.Past.{ArePast}
-use Rattle.plain_laws.proofs.Given.{AreGiven, AllKept, IsGiven}
+use Rattle.plain_laws.proofs.Given.{AreGiven, AllKept}
 use Rattle.plain_laws.proofs.LeftRows.{begun_over, begun_twice, begins_quietly, begun_quietly}
 use Rattle.plain_laws.proofs.Looks.{AllHad, Asking, asks}
 use Rattle.plain_laws.proofs.Parts.{IsCount, Mine as OfPut}
@@ -60,7 +58,7 @@ use Rattle.plain_laws.proofs.Requests.{base, Open, IsResting}
 use Rattle.plain_laws.proofs.Seeking.{a_row}
 use Rattle.plain_laws.proofs.Stages.{joins_there, two_tables, naming_of, naming_comes, ref_of, ref_comes}
 use Rattle.plain_laws.proofs.Streamed.{reading, announces_so, needs_so, need_is}
-use Rattle.plain_laws.proofs.Writes.{Steps, AreSuch, new_rows, sent_to, InPhase, IsDrained, announced, feeds_on, needs_now, news_mine, accepted_so}
+use Rattle.plain_laws.proofs.Writes.{Steps, AreSuch, new_rows, sent_to, InPhase, announced, feeds_on, needs_now, news_mine, accepted_so}
 
 -- what is known where an upload begins: what nodes have of its object is of earlier versions, and nothing is there of its own
 pub record Begins (l : Layout) (before : State) (name : Name) (value : Option AnyRow) (version : Version) (Was : Version → Type 0) : Type 0 where

@@ -1,5 +1,5 @@
 -- The bytes that came of an upload, beside as many as were announced: which blocks of these came, and that they are the first bytes.
-use Rattle.std.proofs.Common.{◌≡◌, ◌⊎◌, ◌<◌, ◌≤◌, ◌+◌, ◌-◌, ◌*◌, ℕ, suc, min, Bool, true, false, ◌||◌, ◌&&◌, List, [], ◌++◌, take, drop, length, replicate, refl, sym, ap, ap₂, ◌∙◌, inl, inr, arith}
+use Rattle.std.proofs.Common.{◌≡◌, ◌⊎◌, ◌<◌, ◌≤◌, ◌+◌, ◌-◌, ◌*◌, ℕ, suc, min, Bool, true, ◌||◌, ◌&&◌, List, [], ◌++◌, take, drop, length, replicate, sym, ap, ap₂, ◌∙◌, inl, inr, arith}
 use Rattle.std.specs.Prelude.{nat_lt, leb}
 use Rattle.std.proofs.lemmas.Bool.{and_parts, or_cases, or_left, or_right, cases_lt, lt-ltb, ltb-true, le-leb, leb-true}
 use Rattle.std.proofs.lemmas.List.{append-nil, length-append, length-take, length-drop, length-replicate, take_all, take-take, take-append-le, drop-append-le, drop-drop, drop-take}

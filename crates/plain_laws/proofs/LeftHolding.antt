@@ -1,9 +1,9 @@
 -- An upload that is given up, in a cluster that holds a map: once the rounds are over it holds the same map, beside one version more that was given up.
-use Rattle.std.proofs.Common.{◌≡◌, ◌≤◌, ◌<◌, ◌^◌, ◌*◌, ◌+◌, ℕ, suc, max, true, false, Option, Some, List, [], ◌∷◌, ◌++◌, take, length, refl, sym, ap, ap₂, ◌∙◌, subst, inl, inr, arith}
+use Rattle.std.proofs.Common.{◌≡◌, ◌≤◌, ◌<◌, ◌^◌, ◌*◌, ◌+◌, ℕ, suc, max, true, false, Option, List, [], ◌∷◌, ◌++◌, length, refl, sym, ap, ap₂, ◌∙◌, subst, inl, arith}
 use Rattle.std.specs.Prelude.{IsTrue, if◌then◌else◌, ◌==◌}
-use Rattle.std.specs.List.{AllByRecursion, Contains}
+use Rattle.std.specs.List.{Contains}
 use Rattle.std.specs.declared.cmp.Ordering.TheVariants.{Less}
-use Rattle.std.proofs.lemmas.Bool.{lt-ltb, le-leb, ltb-true}
+use Rattle.std.proofs.lemmas.Bool.{lt-ltb, le-leb}
 use Rattle.blake2_hash.specs.Hash.{digest_of}
 use Rattle.row_codec.specs.Spelling.{eight}
 use Rattle.layout_roles.specs.declared.layout.Layout.{Layout}
@@ -16,7 +16,6 @@ use Rattle.object_schema.specs.Schema.{words}
 use Rattle.object_schema.specs.Laws.{eight_same}
 use Rattle.table_model.specs.Rows.{row_at}
 use Rattle.quorum_model.specs.Quorum.{is_among}
-use Rattle.cluster_machine.specs.Layouts.{layouts}
 use Rattle.flow_model.specs.declared.order.Order.{Order}
 use Rattle.flow_model.specs.declared.order.Order.TheVariants as order
 use Rattle.flow_model.specs.declared.flow.Name.{Name}
@@ -27,28 +26,25 @@ use Rattle.flow_model.specs.Flow.{asks_for, started}
 use Rattle.flow_model.specs.Next.{drawn}
 use Rattle.flow_model.specs.Rows.{row_key}
 use Rattle.store_model.specs.Fresh.{NoClash}
-use Rattle.store_model.specs.Orders.{kind_of, name_of, buckets_of}
-use Rattle.store_model.specs.Run.{State, Outcome, are_buckets, opened}
+use Rattle.store_model.specs.Orders.{kind_of, name_of}
+use Rattle.store_model.specs.Run.{State, are_buckets}
 use Rattle.store_model.specs.Acts.{Act, HasKey, ActsFit, after_acts}
 use Rattle.store_model.proofs.Acts.{acts_after}
 use Rattle.store_laws.proofs.Placing.{asks_is_step}
 use Rattle.serve_model.specs.declared.upload.Upload.{Upload}
-use Rattle.serve_model.specs.Stores.{Job, carry, keep, leave, stream_of, order_of_job}
-use Rattle.serve_model.specs.Clusters.{Cluster, fits, round, streamed, carried_acts}
-use Rattle.serve_model.specs.Plain.{Has, Plain, same_name, has_at, last_ts, version_in, version_of, at_time, counted, tells, done_for, IsPieceOf}
+use Rattle.serve_model.specs.Stores.{stream_of}
+use Rattle.serve_model.specs.Clusters.{Cluster, fits, round, streamed}
+use Rattle.serve_model.specs.Plain.{Has, Plain, same_name, has_at, last_ts, version_of, at_time, counted}
 use Rattle.plain_laws.specs.Holds.{nodes_at, HasItsBlocks, GaveUp, given_up_at, row_with, IsGivenUp, Holds}
-use Rattle.plain_laws.specs.Blocks.{IsBlockAt}
 use Rattle.plain_laws.proofs.Answering.{row_there, one_bucket}
-use Rattle.plain_laws.proofs.Carrying.{now, asker_now, asker_is, holding_now, gone_now, row_now, asked_state, has_key, number_fits, done_state, worked_state, all_fit}
+use Rattle.plain_laws.proofs.Carrying.{now, asker_now, asker_is, holding_now, gone_now, row_now, asked_state}
 use Rattle.plain_laws.proofs.Entries.{names_equal}
-use Rattle.plain_laws.proofs.Followed.{kept_before, agrees_refused, serves_so}
-use Rattle.plain_laws.proofs.Given.{AllKept}
 use Rattle.plain_laws.proofs.GivenUps.{WasThere, ts_with, past_with, later_than_all}
 use Rattle.plain_laws.proofs.Holding.{Holding, clock_at, blocks_stay}
-use Rattle.plain_laws.proofs.Keeping.{Follows, AllKeep}
+use Rattle.plain_laws.proofs.Keeping.{AllKeep}
 use Rattle.plain_laws.proofs.LeftBlocks.{Begins}
 use Rattle.plain_laws.proofs.LeftBytes.{padded, padded_length, comes_whole}
-use Rattle.plain_laws.proofs.LeftFeeding.{IsLeft, leaves, content}
+use Rattle.plain_laws.proofs.LeftFeeding.{IsLeft, leaves}
 use Rattle.plain_laws.proofs.Looks.{AllHad, Asking}
 use Rattle.plain_laws.proofs.Parts.{IsCount, some_count}
 use Rattle.plain_laws.proofs.Seeking.{a_row}

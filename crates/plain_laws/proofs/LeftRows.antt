@@ -1,10 +1,9 @@
 -- Rows of an object while an upload of it is given up: what they merge to, and that the change calls for the end of the version's row.
-use Rattle.std.proofs.Common.{◌≡◌, ◌⊎◌, true, false, Option, Some, None, List, [], ◌∷◌, refl, sym, ap, ◌∙◌, subst, inl, inr}
+use Rattle.std.proofs.Common.{◌≡◌, ◌⊎◌, true, false, Option, Some, None, [], ◌∷◌, refl, sym, ap, ◌∙◌, subst, inl, inr}
 use Rattle.std.specs.List.{AllByRecursion}
 use Rattle.std.specs.Cmp.{tied_itself}
 use Rattle.std.specs.Ordering.{is_gt, is_lt}
 use Rattle.std.specs.declared.cmp.Ordering.TheVariants.{Less, Equal}
-use Rattle.crdt_core.specs.declared.max.Max.{Max}
 use Rattle.crdt_core.specs.Laws.{JoinLaws}
 use Rattle.crdt_core.specs.LexLaws.{turned}
 use Rattle.crdt_core.specs.Map.{map_join}
@@ -37,7 +36,7 @@ use Rattle.flow_model.specs.declared.flow.Name.{Name}
 use Rattle.flow_model.specs.Rows.{uploading, aborted}
 use Rattle.drained_laws.specs.Waiting.{Has as IsIn}
 use Rattle.plain_laws.proofs.Lost.{all_called, aborted_called, none_called, same_none}
-use Rattle.plain_laws.proofs.ObjectFacts.{facts_joined}
+use Rattle.crdt_rows.proofs.ObjectFacts.{facts_joined}
 use Rattle.plain_laws.proofs.Past.{with_one, says_own, alone, same_state, one_state, own_facts, not_less, IsPast, ArePast}
 
 -- ---- a row of earlier versions, and a later one that isn't complete

@@ -29,12 +29,12 @@ use Rattle.crdt_rows.specs.ObjectRowLaws.{object_laws}
 use Rattle.crdt_rows.specs.State.{state_cmp, is_sized}
 use Rattle.crdt_rows.specs.StateLaws.{state_total}
 use Rattle.crdt_rows.specs.Version.{version_cmp}
-use Rattle.plain_laws.proofs.ObjectFacts.{held, facts_joined, key_joined, facts_decide}
+use Rattle.crdt_rows.proofs.ObjectFacts.{held, facts_joined, key_joined, facts_decide}
 use Rattle.object_schema.specs.Schema.{words}
 use Rattle.object_schema.specs.Triggers.{has_blocks, is_lost, is_newly_aborted, versions_that, given_up, deleted_version}
 use Rattle.object_origins.proofs.Given.{IsLost, all_given}
 use Rattle.flow_model.specs.declared.flow.Name.{Name}
-use Rattle.flow_model.specs.Rows.{settled, sized, object_row}
+use Rattle.flow_model.specs.Rows.{settled, sized}
 use Rattle.drained_laws.specs.Waiting.{Has}
 use Rattle.drained_laws.proofs.Drained.{filter_has}
 use Rattle.drained_laws.proofs.Waits.{some_left, all_mapped}

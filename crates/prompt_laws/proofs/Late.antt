@@ -36,7 +36,7 @@ use Rattle.flow_model.specs.declared.flow.Flow.{Flow}
 use Rattle.flow_model.specs.declared.flow.FlowStep.{FlowStep}
 use Rattle.flow_model.specs.declared.flow.FlowStep.TheVariants.{More, Need, Wait, End}
 use Rattle.flow_model.specs.Blocks.{has_piece, is_long, piece_hash}
-use Rattle.flow_model.specs.Rows.{meta_of, content_of, same_number, object_row, in_blocks, inline, complete, rows_at}
+use Rattle.flow_model.specs.Rows.{meta_of, content_of, same_number, object_row, in_blocks, inline, complete}
 use Rattle.flow_model.specs.Says.{Said, none, marked, inline as says_inline, in_blocks as says_blocks, said_of, shown_rows, Named, unnamed, whole, deleted, named_by}
 use Rattle.flow_model.specs.Flow.{started}
 use Rattle.flow_model.specs.Next.{drawn, stores, completes, writes, uploads, found, reads_on, looked, gathers, opened, lists, goes_on}

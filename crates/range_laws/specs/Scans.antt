@@ -1,8 +1,5 @@
 -- What two nodes answer to one range phase, and which keys the window of their answers names.
-use Rattle.std.specs.Prelude.{ℕ, nat_eq, IsTrue, Option, Some, None, List, ◌++◌}
-use Rattle.std.specs.List.{starts_with}
-use Rattle.std.specs.Ordering.{nat_cmp, is_lt}
-use Rattle.std.specs.Cmp.Lexicographic.{slice_cmp}
+use Rattle.std.specs.Prelude.{ℕ, List, ◌++◌}
 use Rattle.table_schema.specs.Words.{Words}
 use Rattle.table_model.specs.Rows.{rows, range}
 use Rattle.quorum_model.specs.declared.range.RangeAnswer.{RangeAnswer}

@@ -29,7 +29,7 @@ use Rattle.store_anchors.specs.Promises.{WalksAreClear, KeepsPromises, EveryRunK
 use Rattle.prompt_laws.specs.Times.{CollectsInTime, IsPromptIfTimely}
 use Rattle.prompt_laws.proofs.Safely.{TimelyTurnsArePrompt, collects_safely}
 use Rattle.replay_command.specs.Answer.{IsAnswer, bad_line, many_events, replayed, IsOfReplay, Agree}
-use Rattle.replay_command.specs.Replay.{IsTranscribed, checked_transcript, IsChecked, IsAccounted, IsWhole, Replays}
+use Rattle.replay_command.specs.Replay.{checked_transcript, IsWhole, Replays}
 use Rattle.replay_command.proofs.Stating.{EveryFits}
 
 -- a text is a schedule, has a bad line or too many events, and no two of these

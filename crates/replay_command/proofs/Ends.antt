@@ -5,23 +5,23 @@ use Rattle.lab_outside.specs.declared.ports.Sink as sink
 use Rattle.lab_outside.specs.declared.exit.Status.{Status}
 use Rattle.lab_outside.specs.declared.exit.Status.TheVariants.{Done, Refused, ReadFault, WriteFault, Memory as MemoryStatus, Limit}
 use Rattle.lab_outside.specs.Rose.{Rose}
-use Rattle.lab_outside.specs.Bytes.{Wrote, WrotePrefix}
+use Rattle.lab_outside.specs.Bytes.{Wrote}
 use Rattle.lab_outside.proofs.Bytes.{wrote_none, wrote_more, wrote_prefix_more}
 use Rattle.lab_outside.proofs.Rose.{rose_before, rose_after}
-use Rattle.lab_main.specs.Ends.{Ends, said, cut_off}
+use Rattle.lab_main.specs.Ends.{said, cut_off}
 use Rattle.lab_main.specs.Edges.{IsStated, IsUnlinked, Answers, Begins, nothing, begun, Writes}
 use Rattle.lab_main.proofs.Edges.{last_answers, last_begins, whole_writes}
 use Rattle.lab_main.proofs.Writing.{wrote_nothing}
 use Rattle.store_model.specs.declared.event.Numbered.{Numbered}
-use Rattle.store_model.specs.Events.{Turn, events_of}
+use Rattle.store_model.specs.Events.{Turn}
 use Rattle.text_model.specs.Reading.{IsSchedule, IsFirstBadLine, HasTooManyEvents}
 use Rattle.text_model.specs.Played.{AreScheduled}
 use Rattle.replay_run.specs.declared.account.Account.{Account}
 use Rattle.replay_run.specs.Account.{front}
 use Rattle.replay_run.specs.declared.stop.ReplayStop.{ReplayStop}
 use Rattle.replay_run.specs.declared.stop.ReplayStop.TheVariants as halt
-use Rattle.replay_run.specs.Replay.{sent_line, AreFirst, ReplayLacksRoom, IsReplay, whole, GoesFurther}
-use Rattle.replay_run.specs.Stop.{IsPart, of_turns, of_all, IsWhole, LacksLine, Halts as RunHalts}
+use Rattle.replay_run.specs.Replay.{sent_line, AreFirst, ReplayLacksRoom, whole, GoesFurther}
+use Rattle.replay_run.specs.Stop.{IsPart, of_turns, of_all, IsWhole, Halts as RunHalts}
 use Rattle.replay_command.specs.declared.stop.Stop.{Stop}
 use Rattle.replay_command.specs.declared.stop.Stop.TheVariants.{Write, Memory, TooManyEvents, BadLine, Number, Sent}
 use Rattle.replay_command.specs.Answer.{events_line, bad_line_text, IsAnswer, bad_line, many_events, replayed}

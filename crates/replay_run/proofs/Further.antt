@@ -17,7 +17,7 @@ use Rattle.replay_run.specs.Replay.{sent_line, AreFirst, CutOff, IsReplay, whole
 use Rattle.replay_run.proofs.Checked.{has_line}
 use Rattle.replay_run.proofs.Lawful.{IsFine, start_fine, after_fine}
 use Rattle.replay_run.proofs.Meant.{allowed_is_meant}
-use Rattle.replay_run.proofs.Ending.{AreMeant, Given, given}
+use Rattle.replay_run.proofs.Ending.{AreMeant, given}
 use Rattle.replay_run.proofs.Cutting.{never_played_and_cut_off}
 
 -- what is written of turns and of those after them

@@ -10,7 +10,7 @@ use Rattle.s3_model.specs.declared.page.Entry.TheVariants.{Object, Common}
 use Rattle.s3_model.specs.declared.page.ListAsk.{ListAsk}
 use Rattle.s3_model.specs.declared.page.Page.{Page}
 use Rattle.s3_model.specs.Dates.{list_time}
-use Rattle.s3_model.specs.Xml.{escaped, written, open_tag, close_tag, element, text_element}
+use Rattle.s3_model.specs.Xml.{written, close_tag, element, text_element}
 
 -- what each body begins with
 abbrev pub xml_start : List ℕ

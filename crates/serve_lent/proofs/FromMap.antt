@@ -19,8 +19,8 @@ use Rattle.serve_model.specs.Talk.{Grammar, Serving, Next, Stop, Halt, Turn, tur
 use Rattle.serve_model.proofs.Ones.{one_weaker, one_at, at_all}
 use Rattle.serve_cluster.specs.declared.cluster.Cluster.{Cluster}
 use Rattle.serve_cluster.specs.Standing.{StandsFor}
-use Rattle.plain_laws.specs.Served.{HoldsApart, over_map, IsTurnBlock, IsServingFrom, IsTurnFrom, IsAtMapStop, AreStopsFrom, IsGetFrom, AreGetsFrom}
-use Rattle.serve_lent.specs.Lent.{HoldsMap, of_map, over_cluster, AreBlocksApart, ServesFromMap}
+use Rattle.plain_laws.specs.Served.{HoldsApart, IsTurnBlock, IsServingFrom, IsTurnFrom, IsAtMapStop, AreStopsFrom, IsGetFrom, AreGetsFrom}
+use Rattle.serve_lent.specs.Lent.{HoldsMap, of_map, over_cluster, AreBlocksApart}
 
 any : {A : Type 0} (xs : List A) → AllByRecursion (λ x. ⊤) xs
 any [] = tt

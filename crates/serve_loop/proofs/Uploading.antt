@@ -5,7 +5,7 @@ use Rattle.crdt_core.specs.declared.memory.Memory.{Memory as Wanting}
 use Rattle.crdt_core.specs.declared.memory.Memory.TheVariants.{Want, Full}
 use Rattle.crdt_core.specs.Members.{OneOf}
 use Rattle.lab_outside.specs.Connection.{Connection, OnPresent}
-use Rattle.lab_outside.proofs.Present.{on_present, on_present_same}
+use Rattle.lab_outside.proofs.Present.{on_present_same}
 use Rattle.http_wire.specs.Reading.{OnAll}
 use Rattle.flow_model.specs.declared.flow.FlowEnd.{FlowEnd}
 use Rattle.s3_model.specs.declared.fault.Code.{Code}
@@ -27,7 +27,6 @@ use Rattle.serve_loop.specs.Giving.{IsNoGet}
 use Rattle.serve_loop.specs.Sums.{refusal_of_sums}
 use Rattle.serve_loop.specs.Uploads.{IsNeedOf, EachTaken, EachLeft}
 use Rattle.serve_loop.specs.Taking.{IsStreamed, NeedsSo, IsCause, IsQuiet, IsFailed, CameFirst, CameShort, CameSo}
-use Rattle.serve_loop.specs.declared.taking.Came.{Came}
 use Rattle.serve_loop.specs.declared.taking.Came.TheVariants.{Whole, Short, Cut, Unneeded}
 use Rattle.serve_loop.proofs.Serving.{each_left, serves_same, says_serves, silence_says, passing_serves, coming_serves, gives_up, read_then, cut_while, given_up_while, lost_while, nothing_after, leads_none, carried_goes}
 use Rattle.serve_loop.proofs.Begins.{begins_so, stream_begins}

@@ -1,9 +1,9 @@
 -- The blocks of uploads.
-use Rattle.std.proofs.Common.{◌≡◌, ◌≤◌, ◌<◌, inl, inr, ℕ, ◌+◌, ◌-◌, ◌*◌, true, List, ◌++◌, length, take, drop, take_all, length-append, length-take, length-drop, sym, ap, ◌∙◌, subst, arith}
+use Rattle.std.proofs.Common.{◌≡◌, ◌≤◌, ◌<◌, inl, inr, ℕ, ◌+◌, ◌-◌, ◌*◌, List, ◌++◌, length, take, drop, take_all, length-append, length-take, length-drop, sym, ap, ◌∙◌, subst, arith}
 use Rattle.std.proofs.lemmas.Bool.{cases_lt, ltb-true, lt-ltb}
 use Rattle.std.proofs.lemmas.List.{take-append-le, drop-append-le}
 use Rattle.std.proofs.Math.Seq.{take-append-add}
-use Rattle.flow_model.specs.Blocks.{piece, has_piece, is_long}
+use Rattle.flow_model.specs.Blocks.{piece, has_piece}
 use Rattle.serve_model.specs.Stores.{Upload, Job, carry, keep, leave, Asking, IsLeftOf, IsLeftFor}
 use Rattle.serve_model.specs.Plain.{Plain, IsPiece, IsPieceOf, PutsPiece, PutsBlock}
 
@@ -19,9 +19,6 @@ module _ (block : ℕ) (u : Upload) (came bytes : List ℕ) (all : length came �
     whole = inr (omega (arith, all));
     bytes_are = is ∙ ap (λ taken. piece block taken i) (sym all_taken);
   }
-
-  pub kept_is_piece : is_long came ≡ true → IsPieceOf block u came bytes → IsPiece block came bytes
-  kept_is_piece long h = (h.place, long, ap (λ taken. has_piece block taken h.place) (sym all_taken) ∙ h.there, h.bytes_are ∙ ap (λ taken. piece block taken h.place) all_taken)
 
 -- what came whole is still there when more came
 module _ (block : ℕ) (u : Upload) (came rest bytes : List ℕ) (h : IsPieceOf block u came bytes) where

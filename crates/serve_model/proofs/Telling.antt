@@ -19,7 +19,7 @@ use Rattle.s3_model.specs.declared.page.Entry.{Entry as Shown}
 use Rattle.s3_model.specs.declared.page.ListAsk.{ListAsk}
 use Rattle.s3_model.specs.declared.page.Page.{Page}
 use Rattle.s3_model.specs.declared.reply.Reply.TheVariants as reply
-use Rattle.s3_model.specs.Page.{meta_in, is_listed, common_of, shown, entry_of, once_after, page_of}
+use Rattle.s3_model.specs.Page.{meta_in, is_listed, common_of, shown, entry_of, once_after}
 use Rattle.serve_model.specs.declared.answer.Answer.{Answer}
 use Rattle.serve_model.specs.declared.answer.Answer.TheVariants as answer
 use Rattle.serve_model.specs.Told.{Told, list, whole, told_of, TellSame}
@@ -69,9 +69,6 @@ module _ (asked : ListAsk) where
   -- the page of what is shown
   abbrev page_cut : List Shown → Page
   page_cut all = let once = once_after None all in record { entries = take asked.max once; truncated = nat_lt asked.max (length once) && not (asked.max == 0) }
-
-  pub page_told : (rows others : List ObjectRow) → entries rows ≡ entries others → page_of asked rows ≡ page_of asked others
-  page_told rows others same = ap page_cut (rows_shown rows ∙ (ap (λ (es : List Entry). filter_map shown_entry es) same ∙ sym (rows_shown others)))
 
 -- ---- answers
 

@@ -8,8 +8,8 @@ use Rattle.flow_model.specs.declared.order.Order.{Order}
 use Rattle.flow_model.specs.declared.order.Order.TheVariants as order
 use Rattle.store_model.specs.Run.{State, need_at}
 use Rattle.store_model.specs.Acts.{Act, keeps, after_acts}
-use Rattle.serve_model.specs.Stores.{Upload, Job, carry, keep, leave, stream_of}
-use Rattle.serve_model.specs.Clusters.{Cluster, delivered, fed_block, fed_acts, decided, received_acts, streamed, IsWhole, order_acts, carried_acts, cluster}
+use Rattle.serve_model.specs.Stores.{Upload, Job, carry, keep, leave}
+use Rattle.serve_model.specs.Clusters.{delivered, fed_block, fed_acts, decided, received_acts, streamed, IsWhole, order_acts, carried_acts}
 use Rattle.serve_model.specs.Uploads.{IsPart, IsLeft, acts_of_blocks, AreNeeded}
 
 -- ---- orders
@@ -23,20 +23,6 @@ whole_acts s q (order.Head bucket key) is = refl
 whole_acts s q (order.Delete bucket key) is = refl
 whole_acts s q (order.Copy from_bucket from_key bucket key headers) is = refl
 whole_acts s q (order.List bucket prefix) is = refl
-
--- any other is an upload
-pub whole_or_upload : (o : Order) → IsWhole o ⊎ ((u : Upload) × (o ≡ stream_of u))
-whole_or_upload (order.Stream bucket key announced headers) = inr (record { bucket = bucket; key = key; length = announced; headers = headers }, refl)
-whole_or_upload (order.Put bucket key body headers) = inl tt
-whole_or_upload (order.Get bucket key) = inl tt
-whole_or_upload (order.Head bucket key) = inl tt
-whole_or_upload (order.Delete bucket key) = inl tt
-whole_or_upload (order.Copy from_bucket from_key bucket key headers) = inl tt
-whole_or_upload (order.List bucket prefix) = inl tt
-
--- and is given up after no bytes
-pub upload_is_left : (c : Cluster) (time : ℕ) (u : Upload) → cluster.carries c time (carry (stream_of u)) ≡ cluster.carries c time (leave u [])
-upload_is_left c time u = refl
 
 -- ---- bytes come
 

@@ -79,9 +79,6 @@ stopped_wants stop result old new faults risen (cut_off e rose wrote) f = absurd
 pub no_want_done : status.Done ≡ status.Memory → ⊥
 no_want_done h = cc
 
-pub no_want_usage : status.Usage ≡ status.Memory → ⊥
-no_want_usage h = cc
-
 -- ---- a read that failed
 
 -- what was read before, where that succeeded
@@ -202,9 +199,6 @@ no_write Number h = cc
 
 pub no_write_done : status.Done ≡ status.WriteFault → ⊥
 no_write_done h = cc
-
-pub no_write_usage : status.Usage ≡ status.WriteFault → ⊥
-no_write_usage h = cc
 
 module _ (result : Status) (old new : Option (List ℕ)) (faults risen : ℕ) where
   -- a text was written at the end

@@ -43,10 +43,6 @@ are_changes l (c ∷ cs) h = (record { after = refl; stages = refl; shown = refl
 
 -- ---- what is staged
 
-out_staging : (ns : List ℕ) → AllByRecursion IsStaging (steps (map (λ n. plainly (step.Role n None)) ns))
-out_staging [] = tt
-out_staging (n ∷ ns) = (tt, out_staging ns)
-
 in_staging : (roles : List Role) (wanted : Redundancy) → AllByRecursion IsStaging (steps (map (λ role. plainly (staged_as role)) roles ++ plainly (step.Redundancy wanted) ∷ []))
 in_staging [] wanted = (tt, tt)
 in_staging (r ∷ roles) wanted = (tt, in_staging roles wanted)

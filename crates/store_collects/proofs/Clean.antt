@@ -7,7 +7,6 @@ use Rattle.crdt_core.specs.Members.{Has}
 use Rattle.crdt_rows.specs.declared.any_row.AnyRow.{AnyRow}
 use Rattle.crdt_rows.specs.AnyRow.{any_join}
 use Rattle.layout_roles.specs.declared.cut.Cut.{Cut}
-use Rattle.layout_roles.specs.declared.layout.Layout.{Layout}
 use Rattle.layout_roles.specs.declared.role.Role.{Role}
 use Rattle.view_model.specs.View.{newest}
 use Rattle.table_schema.specs.Words.{Words}
@@ -27,10 +26,9 @@ use Rattle.cluster_machine.specs.Phases.{call_at}
 use Rattle.cluster_machine.specs.Run.{IsRun, run as machine_run, does as machine_does}
 use Rattle.cluster_machine.specs.Acts.{acts}
 use Rattle.cluster_machine.specs.World.{Sent, Mark, Request, World as Model, numbered, clock, is_member_at, empty}
-use Rattle.cluster_machine.specs.Step.{most_versions, Choice, given, none_given, Effects, nothing, refusal, at_message, expires, closing, chosen, applies_at, trio_applies, acting, begun, beginning, opening, effects}
+use Rattle.cluster_machine.specs.Step.{most_versions, Choice, given, none_given, Effects, nothing, refusal, at_message, expires, closing, chosen, applies_at, trio_applies, acting, begun, beginning, effects}
 use Rattle.cluster_machine.specs.Worlds.{Done, does, next}
-use Rattle.machine_collects.specs.Versions.{hour}
-use Rattle.machine_collects.specs.Prompt.{EndInTime, IsPrompt, moments_over}
+use Rattle.machine_collects.specs.Prompt.{EndInTime, IsPrompt}
 use Rattle.machine_collects.proofs.Laws.{Ends, ends_at, tombstones, message_clean, node_clean}
 use Rattle.collect_reads.specs.Clean.{GaveNotBelow}
 use Rattle.collect_reads.proofs.Stepping.{IsAt, from_empty, step_good}

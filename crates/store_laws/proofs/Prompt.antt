@@ -26,10 +26,6 @@ prompt_more moments w (x ∷ ms) m h p = (h.0, prompt_more (moments_after moment
 
 -- ---- steps in two parts
 
-pub moments_parts : (moments : List ℕ) (w : World) (first rest : List Moving) → moments_then moments w (first ++ rest) ≡ moments_then (moments_then moments w first) (run any_join words w first) rest
-moments_parts moments w [] rest = refl
-moments_parts moments w (x ∷ first) rest = moments_parts (moments_after moments w (does any_join words w x)) (next any_join words w x) first rest
-
 pub prompt_parts : (moments : List ℕ) (w : World) (first rest : List Moving) → ArePromptMoves moments w (first ++ rest) → ArePromptMoves moments w first × ArePromptMoves (moments_then moments w first) (run any_join words w first) rest
 prompt_parts moments w [] rest h = (tt, h)
 prompt_parts moments w (x ∷ first) rest h =

@@ -25,7 +25,7 @@ use Rattle.store_model.proofs.Leads.{Leads, delivers_lead, drains_lead}
 use Rattle.store_collects.specs.Prompt.{IsPromptMove, ArePromptMoves, ArePromptActs}
 use Rattle.store_collects.proofs.Machine.{moments_then}
 use Rattle.store_laws.specs.Hashed.{ActsHash, CollectsSafely}
-use Rattle.store_laws.proofs.Deeds.{comes, IsPromptIn, ArePromptIn, IsClear, StepsDo, ActsDo, never_acts, never_by_then, deeds_apart}
+use Rattle.store_laws.proofs.Deeds.{comes, IsPromptIn, ArePromptIn, IsClear, StepsDo, ActsDo, never_acts, deeds_apart}
 use Rattle.store_laws.proofs.Elements.{has_right}
 use Rattle.store_laws.proofs.Prompt.{AreOf, more_of, many_of, moments_grow, take_front, prompt_parts, prompt_both}
 
@@ -174,7 +174,3 @@ pub prompt_by_then : (acts moment : List Act) → IsMoment acts moment → ArePr
 prompt_by_then acts moment (between before after is) p = prompt_first [] start before after (subst (ArePromptActs [] start) is p)
 prompt_by_then acts moment (within before after n k is low) p =
     prompt_last [] start before (drain n) after (drain k) (subst (ArePromptActs [] start) is p) (λ ts all. (fewer_prompt k n (after_acts start before) ts low all, tt))
-
-pub safely_by_then : (acts moment : List Act) → IsMoment acts moment → CollectsSafely acts → CollectsSafely moment
-safely_by_then acts moment is (inl never) = inl (never_by_then acts moment is never)
-safely_by_then acts moment is (inr prompt) = inr (prompt_by_then acts moment is prompt)

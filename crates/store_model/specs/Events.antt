@@ -7,7 +7,7 @@ use Rattle.store_model.specs.declared.event.Event.{Event}
 use Rattle.store_model.specs.declared.event.Event.TheVariants.{Trio, Block, Bucket, Role, Redundancy, Apply, Tick, Skew, Put, Get, Head, Delete, Copy, List as Keys, Deliver, Lose, Drain, Expire, Restart, Gossip, Ack, Sync, SyncAck, Clean, Work, Repair, Collect}
 use Rattle.store_model.specs.declared.event.Numbered.{Numbered}
 use Rattle.store_model.specs.Run.{State, Outcome, plainly}
-use Rattle.store_model.specs.Acts.{Act, moves, installs, asks, delivery, drain, forgets, adds, cuts, acted, after_acts}
+use Rattle.store_model.specs.Acts.{Act, moves, asks, delivery, drain, adds, cuts, acted, after_acts}
 
 -- the bytes of an object of a schedule: size many, the first one fill, modulo 251
 abbrev pub object_bytes : ℕ → ℕ → List ℕ

@@ -7,7 +7,6 @@ use Rattle.std.specs.Map.{lookup, set_value, keys_of}
 use Rattle.std.specs.Option.{is_some}
 use Rattle.std.specs.Ordering.{nat_cmp}
 use Rattle.std.specs.Cmp.{both_ways, tied_itself, nat_cmp_total, nat_eq_equiv, eq_by_cmp_equiv, Equal-is}
-use Rattle.std.specs.declared.cmp.Ordering.TheVariants.{Equal}
 use borrow.Author.Tests.{eqb-true, eq-eqb}
 use Rattle.std.proofs.lemmas.Option.{same_Some}
 use Rattle.crdt_core.specs.IdentityLaws.{nat_identical}

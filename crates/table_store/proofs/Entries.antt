@@ -106,10 +106,6 @@ module _ {Z X : Type 0} where
   here_by key old w e es rest true h found = ap (λ b. cond b (Some w) (lookup (at key) es)) h
   here_by key old w e es rest false h found = ap (λ b. cond b (Some e.1) (lookup (at key) (set_value (at key) es w))) h ∙ rest found
 
-  pub lookup_set : (key : List ℕ) (old w : X) (es : List (Vec ℕ Z × X)) → lookup (at key) es ≡ Some old → lookup (at key) (set_value (at key) es w) ≡ Some w
-  lookup_set key old w [] found = cc
-  lookup_set key old w (e ∷ es) found = here_by key old w e es (lookup_set key old w es) (at key e.0) refl found
-
 -- ---- an entry that goes
 
 module _ {Z X : Type 0} where

@@ -1,5 +1,5 @@
 -- The keys of each partition, after a key is added, and after a partition goes.
-use Rattle.std.specs.Prelude.{◌≡◌, ℕ, Bool, true, false, cond, IsTrue, is_some, length, filter, List, [], Option, Some, None, refl}
+use Rattle.std.specs.Prelude.{◌≡◌, ℕ, Bool, true, false, cond, IsTrue, is_some, List, [], Option, Some, None, refl}
 use Rattle.std.proofs.Common.{ap, sym, ◌∙◌, subst}
 use Rattle.std.specs.Map.{keys_of, lookup}
 use Rattle.std.specs.BTreeMap.{BTreeMap, get, insert_entry, is_at}
@@ -10,9 +10,7 @@ use Rattle.std.specs.declared.cmp.Ordering.TheVariants.{Less, Equal, Greater}
 use Rattle.std.specs.Cmp.{Equal-is}
 use Rattle.std.proofs.lemmas.Cmp.{nat_cmp_total, nat_list_cmp_total, tied_itself}
 use Rattle.crdt_core.specs.IdentityLaws.{slice_identical, nat_identical}
-use Rattle.blake2_hash.specs.Blake2b.{blake2b}
 use Rattle.blake2_hash.specs.declared.digest.Hash32.{Hash32}
-use Rattle.merkle_trie.specs.Keeping.{Keeps}
 use Rattle.table_store.specs.declared.index.Part.{Part}
 use Rattle.table_store.specs.Index.{Entry, Extends, Grows, Key, entries_in, has_key, keys_under, known, known_pairs}
 use Rattle.table_store.proofs.Entries.{at, has_is, known_new, lookup_put}
@@ -30,9 +28,6 @@ ne_cmp a b h = ne_by a b h (nat_cmp a b) refl
 
 pub extends_itself : (es : List Entry) → Extends es es
 extends_itself es = record { keys = λ key had. had; pairs = λ key. refl; known_are = refl }
-
-pub extends_same : (old new : List Entry) → new ≡ old → Extends old new
-extends_same old new same = rw same (extends_itself old)
 
 pub not_found : {X : Type 0} (o : Option X) → is_some o ≡ false → o ≡ None
 not_found None h = refl
@@ -66,29 +61,6 @@ has_new old new k key same put =
     ∙ (has_is k.items new
     ∙ (ap is_some (ap (lookup (at k.items)) put ∙ lookup_put k.items k None old)
     ∙ ap (λ o. is_some (cond (is_eq o) (Some None) (lookup (at k.items) old))) (tied_itself nat_list_cmp_total k.items)))
-
--- nothing is known where there is nothing
-pub grown_none : (part : Part) → part.pairs.entries ≡ [] → Keeps (blake2b 32) part.trie [] → Grows None part
-grown_none part none keeps = record {
-  extends = extends_same [] part.pairs.entries none;
-  waiting = λ key was. no_wait was;
-  kept = λ _. record { held = []; keeps = keeps; same = λ test. ap (λ es. length (filter test (known_pairs es))) (sym none) };
-}
-  where
-    no_wait : {P : Type 0} → false ≡ true → P
-    no_wait h = cc
-
--- keys and waiting keys were added
-pub grown_more : (old new : Part) → Extends old.pairs.entries new.pairs.entries → ((key : List ℕ) → has_key key old.waiting.keys ≡ true → has_key key new.waiting.keys ≡ true) → new.trie ≡ old.trie → Grows (Some old) new
-grown_more old new extends waiting same = record {
-  extends = extends;
-  waiting = waiting;
-  kept = λ kept. record {
-    held = kept.held;
-    keeps = subst (λ trie. Keeps (blake2b 32) trie kept.held) (sym same) kept.keeps;
-    same = λ test. kept.same test ∙ ap (λ pairs. length (filter test pairs)) (sym extends.known_are);
-  };
-}
 
 grown_itself : (part : Part) → Grows (Some part) part
 grown_itself part = record {
@@ -124,10 +96,6 @@ module _ (old new : BTreeMap ℕ Part) (p : ℕ) (is : Part) (put : (q : ℕ) �
     -- each partition has all keys that it had
     pub put_more : (q : ℕ) (key : List ℕ) → IsTrue (has_key key (keys_under old q)) → IsTrue (has_key key (keys_under new q))
     put_more q key had = ap (λ found. has_key key (keys_of (entries_in found))) (put q) ∙ more_by q key had (is_eq (nat_cmp p q)) refl
-
--- an index with the same parts
-pub grown_same : (old new : BTreeMap ℕ Part) → ((q : ℕ) → get nat_cmp new q ≡ get nat_cmp old q) → (q : ℕ) (part : Part) → get nat_cmp new q ≡ Some part → Grows (get nat_cmp old q) part
-grown_same old new same q part found = rw (sym (same q) ∙ found) (grown_itself part)
 
 -- an index without a partition has what it had of the others
 pub removed_others : (old new : BTreeMap ℕ Part) (p : ℕ) → ((q : ℕ) → get nat_cmp new q ≡ cond (is_at (nat_cmp p) q) None (get nat_cmp old q)) →

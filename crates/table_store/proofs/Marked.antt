@@ -1,12 +1,12 @@
 -- Keys of rows with nothing but a delete marker, gathered from what is noted.
-use Rattle.std.specs.Prelude.{◌≡◌, ℕ, ◌==◌, ◌&&◌, ◌||◌, ◌<◌, leb, Bool, true, false, cond, not, is_some, List, [], ◌∷◌, Option, Some, None, Vec, filter, refl}
+use Rattle.std.specs.Prelude.{◌≡◌, ℕ, ◌==◌, ◌&&◌, ◌||◌, ◌<◌, leb, Bool, true, false, cond, not, is_some, List, [], ◌∷◌, Option, Some, None, Vec, refl}
 use Rattle.std.proofs.Common.{ap, sym, ◌∙◌, arith}
-use Rattle.std.proofs.lemmas.Bool.{both_ways, leb-true}
+use Rattle.std.proofs.lemmas.Bool.{leb-true}
 use Rattle.std.proofs.lemmas.Cmp.{ranked}
 use Rattle.std.proofs.Math.Bool.{or-false}
 use Rattle.std.specs.List.{list_any}
 use Rattle.std.specs.Map.{lookup}
-use Rattle.std.specs.BTreeMap.{get, is_at}
+use Rattle.std.specs.BTreeMap.{is_at}
 use Rattle.std.specs.BTreeMap.Range.{entries_between}
 use Rattle.std.specs.BTreeSet.{BTreeSet}
 use Rattle.std.specs.Ordering.{nat_cmp, is_eq, is_lt}
@@ -20,7 +20,7 @@ use Rattle.table_schema.specs.Words.{Words}
 use Rattle.table_store.specs.declared.shelf.Placed.{Placed}
 use Rattle.table_store.specs.Index.{Key, has_key}
 use Rattle.table_store.specs.Shelf.{placed_at, shelf_find}
-use Rattle.table_store.specs.Markers.{Markers, AllMarked, has_key_in, is_by, is_marked, is_marked_at, marked_at, only_at}
+use Rattle.table_store.specs.Markers.{Markers, AllMarked, has_key_in, is_by, is_marked, is_marked_at, only_at}
 
 -- ---- one key
 

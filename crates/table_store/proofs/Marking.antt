@@ -1,11 +1,10 @@
 -- Which rows with nothing but a delete marker are noted, after rows or notes change.
-use Rattle.std.specs.Prelude.{◌≡◌, ◌⊎◌, ℕ, ◌==◌, ◌&&◌, ◌||◌, ◌≤◌, leb, Bool, true, false, cond, not, is_some, List, [], ◌∷◌, Option, Some, None, Vec, filter, refl}
-use Rattle.std.proofs.Common.{ap, sym, ◌∙◌, subst, inl, inr, arith}
-use Rattle.std.proofs.lemmas.Bool.{eq-eqb, both_ways}
-use Rattle.std.proofs.lemmas.Cmp.{nat_cmp_total, nat_list_cmp_total, tied_itself}
-use Rattle.std.specs.List.{list_any}
-use Rattle.std.specs.Map.{IsKeyTest, AreApart, keys_of, lookup}
-use Rattle.std.specs.BTreeMap.{BTreeMap, UpdatesBy, get, is_at}
+use Rattle.std.specs.Prelude.{◌≡◌, ◌⊎◌, ℕ, ◌==◌, ◌&&◌, ◌||◌, ◌≤◌, Bool, true, false, cond, List, [], ◌∷◌, Option, Some, None, Vec, refl}
+use Rattle.std.proofs.Common.{ap, sym, ◌∙◌}
+use Rattle.std.proofs.lemmas.Bool.{eq-eqb}
+use Rattle.std.proofs.lemmas.Cmp.{nat_cmp_total, tied_itself}
+use Rattle.std.specs.Map.{lookup}
+use Rattle.std.specs.BTreeMap.{get, is_at}
 use Rattle.std.specs.BTreeSet.{BTreeSet}
 use Rattle.std.specs.Ordering.{nat_cmp, is_eq}
 use Rattle.std.specs.Cmp.{Equal-is}
@@ -13,10 +12,10 @@ use Rattle.std.specs.Cmp.Lexicographic.{slice_cmp}
 use Rattle.crdt_core.specs.IdentityLaws.{slice_identical, nat_identical}
 use Rattle.table_schema.specs.Words.{Words}
 use Rattle.table_store.specs.declared.shelf.Placed.{Placed}
-use Rattle.table_store.specs.Index.{Key, has_key}
-use Rattle.table_store.specs.Shelf.{placed_at, shelf_find}
-use Rattle.table_store.specs.Markers.{Markers, AllMarked, AllStay, OthersStay, RestStays, has_key_in, is_by, is_marked, marked_at}
-use Rattle.table_store.proofs.Entries.{at, eq_turn}
+use Rattle.table_store.specs.Index.{Key}
+use Rattle.table_store.specs.Shelf.{placed_at}
+use Rattle.table_store.specs.Markers.{Markers, AllMarked, AllStay, OthersStay, RestStays, has_key_in, marked_at}
+use Rattle.table_store.proofs.Entries.{eq_turn}
 use Rattle.table_store.proofs.Forgetting.{IsWithout}
 
 some_is : {X : Type 0} (a b : X) → Some a ≡ Some b → a ≡ b
@@ -63,12 +62,6 @@ pub same_stay : (old new : Markers) → new.entries ≡ old.entries → AllStay 
 same_stay old new same t key had = ap (λ es. has_key_in key (lookup (is_at (nat_cmp t)) es)) same ∙ had
 
 -- ---- one change after the other
-
-pub all_then_rest : (ts : ℕ) (key : List ℕ) (a b c : Markers) → AllStay a b → RestStays ts key b c → RestStays ts key a c
-all_then_rest ts key a b c stay rest t other apart had = rest t other apart (stay t other had)
-
-pub rest_then_all : (ts : ℕ) (key : List ℕ) (a b c : Markers) → RestStays ts key a b → AllStay b c → RestStays ts key a c
-rest_then_all ts key a b c rest stay t other apart had = stay t other (rest t other apart had)
 
 and_false : (b c : Bool) → c ≡ false → (b && c) ≡ false
 and_false true c h = h

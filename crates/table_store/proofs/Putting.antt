@@ -3,7 +3,6 @@ use Rattle.std.specs.Prelude.{◌≡◌, ℕ, ◌<◌, Bool, true, false, cond, 
 use Rattle.std.proofs.Common.{ap, sym, ◌∙◌, subst, arith}
 use Rattle.std.proofs.lemmas.Bool.{both_ways}
 use Rattle.std.proofs.lemmas.Cmp.{nat_cmp_total, tied_itself}
-use Rattle.std.specs.List.{list_all}
 use Rattle.std.specs.Map.{keys_of, lookup, set_value}
 use Rattle.std.specs.BTreeMap.{BTreeMap, get, is_at}
 use Rattle.std.specs.Ordering.{nat_cmp, is_eq}
@@ -22,11 +21,9 @@ use Rattle.merkle_trie.specs.Trees.{IsTree}
 use Rattle.table_store.specs.declared.shelf.Placed.{Placed}
 use Rattle.table_store.specs.declared.index.Part.{Part}
 use Rattle.table_store.specs.Index.{Entry, IsKept, entries_in, has_key, keys_under, known, pair_at, shown_pair}
-use Rattle.table_store.specs.Shelf.{is_indexed}
 use Rattle.table_store.specs.Settled.{AllFit, Fits, IsSettled, IsSettledAt, IsTaken}
 use Rattle.table_store.proofs.Alike.{keeps_set}
 use Rattle.table_store.proofs.Entries.{at, has_is, put_same}
-use Rattle.table_store.proofs.Partitions.{indexed_more}
 
 some_is : {X : Type 0} (a b : X) → Some a ≡ Some b → a ≡ b
 some_is a b e = cc
@@ -87,9 +84,6 @@ popped (x ∷ xs) rest key (Some k) first removal some =
 -- ---- the index after a partition was settled
 
 module _ (index later : BTreeMap ℕ Part) (p : ℕ) (was is : Part) (there : get nat_cmp index p ≡ Some was) (puts : (q : ℕ) → get nat_cmp later q ≡ cond (is_at (nat_cmp p) q) (Some is) (get nat_cmp index q)) where
-  is_that : (q : ℕ) (part : Part) → p ≡ q → Some is ≡ Some part → is ≡ part
-  is_that q part one same = some_is is part same
-
   module _ {R Z : Type 0} (s : Words R) (rows : List (Vec ℕ Z × Placed R)) (fits : Fits s p rows is) (all : AllFit s index rows) where
     fit_by : (q : ℕ) (part : Part) (b : Bool) → is_eq (nat_cmp p q) ≡ b → cond b (Some is) (get nat_cmp index q) ≡ Some part → Fits s q rows part
     fit_by q part true h found =
@@ -112,9 +106,3 @@ module _ (index later : BTreeMap ℕ Part) (p : ℕ) (was is : Part) (there : ge
       let one : p ≡ q = nat_identical p q ((Equal-is _).0 h) in
       same ∙ ap (λ o. keys_of (entries_in o)) (sym there ∙ ap (get nat_cmp index) one)
   keys_by q false h same = refl
-
-  -- with the same keys there the index has each row's key as before
-  pub indexed_one : {R Z : Type 0} (rows : List (Vec ℕ Z × Placed R)) → keys_of is.pairs.entries ≡ keys_of was.pairs.entries → list_all (is_indexed index) rows ≡ true → list_all (is_indexed later) rows ≡ true
-  indexed_one rows same all =
-      indexed_more index later rows
-      (λ q key had. ap (has_key key) (ap (λ o. keys_of (entries_in o)) (puts q) ∙ keys_by q (is_eq (nat_cmp p q)) refl same) ∙ had) all

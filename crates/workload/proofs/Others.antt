@@ -6,7 +6,7 @@ use Rattle.store_model.specs.declared.event.Event.{Event}
 use Rattle.store_model.specs.declared.event.Event.TheVariants as event
 use Rattle.store_model.specs.declared.event.Numbered.{Numbered}
 use Rattle.workload.specs.Numbers.{after, draw}
-use Rattle.workload.specs.Turns.{Made, chosen, first_event, plain_turn, key_of}
+use Rattle.workload.specs.Turns.{Made, chosen, plain_turn, key_of}
 use Rattle.workload.specs.Change.{on_each, on_others, spread, role_of, restarts, applied, moved, cleaned, change}
 use Rattle.workload.specs.Schedule.{turn_of, made, on_lines, schedule}
 

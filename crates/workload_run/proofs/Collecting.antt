@@ -1,10 +1,8 @@
 -- A workload collects nothing.
 use Rattle.std.proofs.Common.{◌≡◌, ℕ, List, [], ◌∷◌, inl, sym, subst}
-use Rattle.std.specs.List.{AllByRecursion}
 use Rattle.cluster_machine.specs.Choices.{Decision}
 use Rattle.store_model.specs.declared.event.Event.{Event}
 use Rattle.store_model.specs.declared.event.Event.TheVariants as event
-use Rattle.store_model.specs.declared.event.Numbered.{Numbered}
 use Rattle.store_model.specs.Events.{Turn, act_of, acts_of, events_of}
 use Rattle.store_laws.specs.Hashed.{IsOtherAct, NeverCollect, CollectsSafely}
 use Rattle.workload.specs.Schedule.{schedule}

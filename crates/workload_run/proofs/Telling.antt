@@ -7,12 +7,11 @@ use Rattle.lab_outside.specs.declared.ports.Sink as sink
 use Rattle.lab_outside.specs.declared.exit.Status.{Status}
 use Rattle.lab_outside.specs.declared.exit.Status.TheVariants.{Done, Refused, Usage, ReadFault, WriteFault, LinkFault, Memory as MemoryStatus, Limit}
 use Rattle.lab_outside.specs.Rose.{Rose}
-use Rattle.lab_outside.specs.Bytes.{Wrote}
 use Rattle.lab_outside.proofs.Rose.{rose_after}
 use Rattle.lab_main.specs.Ends.{Ends}
 use Rattle.lab_main.specs.Edges.{IsStated, Answers, Begins, nothing, begun, Writes}
 use Rattle.lab_main.proofs.Writing.{wrote_nothing}
-use Rattle.lab_main.proofs.Edges.{answers_begin, last_answers, last_begins, ends_fault, whole_writes}
+use Rattle.lab_main.proofs.Edges.{last_answers, last_begins, ends_fault, whole_writes}
 use Rattle.store_model.specs.Run.{start}
 use Rattle.store_model.specs.Moments.{IsMoment, between, AtEachMoment}
 use Rattle.store_anchors.specs.Promises.{WalksAreClear, KeepsPromises, EveryRunKeepsPromises}
@@ -26,7 +25,7 @@ use Rattle.replay_run.specs.declared.stop.ReplayStop.{ReplayStop}
 use Rattle.replay_run.specs.declared.stop.ReplayStop.TheVariants.{Write, Memory, Number, Sent}
 use Rattle.replay_run.specs.Account.{IsText, summary_lines, closing}
 use Rattle.replay_run.specs.Replay.{sent_line, ReplayLacksRoom, IsReplay, whole, sent}
-use Rattle.replay_run.specs.Stop.{IsPart, of_turns as part_of_turns, of_all, IsWhole, LacksLine, Halts, stop_of_memory}
+use Rattle.replay_run.specs.Stop.{IsPart, of_turns as part_of_turns, of_all, IsWhole, Halts, stop_of_memory}
 use Rattle.replay_run.proofs.Leading.{played_fits}
 use Rattle.replay_run.proofs.Causes.{wanting}
 use Rattle.replay_run.proofs.Running.{part_none}

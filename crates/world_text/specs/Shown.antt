@@ -6,7 +6,7 @@ use Rattle.object_schema.specs.Schema.{words}
 use Rattle.table_model.specs.Rows.{rows}
 use Rattle.table_model.specs.Top.{any_unspelled}
 use Rattle.cluster_machine.specs.Ties as ties
-use Rattle.store_model.specs.Run.{World, State}
+use Rattle.store_model.specs.Run.{World}
 use Rattle.text_model.specs.Transcript.{line_at}
 use Rattle.s3_world.specs.declared.world.S3World.{S3World}
 use Rattle.s3_world.specs.Stands.{IsStore}
