@@ -37,10 +37,10 @@ tied_number x y e = subst (λ s. MatchOrdering s (x < y) (x ≡ y) (y < x)) e (r
 pub starts_not_less : (prefix key : List ℕ) → starts_with nat_eq key prefix ≡ true → is_lt (slice_cmp nat_cmp key prefix) ≡ false
 starts_not_less [] [] e = refl
 starts_not_less [] (x ∷ xs) e = refl
-starts_not_less (p ∷ ps) [] e = let no : false ≡ true = e in cc
+starts_not_less (p ∷ ps) [] e = cc
 starts_not_less (p ∷ ps) (x ∷ xs) e =
-    let parts = and_parts (nat_eq x p) (starts_with nat_eq xs ps) e in
-    let same : x ≡ p = eqb-true x p parts.0 in
+    let parts = and_parts (nat_eq p x) (starts_with nat_eq xs ps) e in
+    let same : x ≡ p = sym (eqb-true p x parts.0) in
     (λ i. is_lt (ordering_then (nat_cmp (same i) p) (slice_cmp nat_cmp xs ps)))
     ∙ ((λ i. is_lt (ordering_then (tied_itself nat_cmp_total p i) (slice_cmp nat_cmp xs ps))) ∙ starts_not_less ps xs parts.1)
 
@@ -49,15 +49,15 @@ pub starts_between : (prefix key other : List ℕ) → is_lt (slice_cmp nat_cmp 
 starts_between [] [] other a b e = refl
 starts_between [] (x ∷ xs) other a b e = refl
 starts_between (p ∷ ps) [] other a b e = let no : true ≡ false = a in cc
-starts_between (p ∷ ps) (x ∷ xs) [] a b e = let no : false ≡ true = e in cc
+starts_between (p ∷ ps) (x ∷ xs) [] a b e = cc
 starts_between (p ∷ ps) (x ∷ xs) (y ∷ ys) a b e =
-    let parts = and_parts (nat_eq y p) (starts_with nat_eq ys ps) e in
-    let same : y ≡ p = eqb-true y p parts.0 in
+    let parts = and_parts (nat_eq p y) (starts_with nat_eq ys ps) e in
+    let same : y ≡ p = sym (eqb-true p y parts.0) in
     let tie : nat_cmp x p ≡ Equal = ties nat_cmp_total x p (first_not _ _ a) (subst (λ n. is_lt (nat_cmp n x) ≡ false) same (first_not _ _ b)) in
     let one : x ≡ p = tied_number x p tie in
     let back : nat_cmp y x ≡ Equal = (λ i. nat_cmp (same i) (one i)) ∙ tied_itself nat_cmp_total p in
     let rest = starts_between ps xs ys (second_not _ _ a tie) (second_not _ _ b back) parts.1 in
-    (λ i. nat_eq (one i) p && starts_with nat_eq xs ps) ∙ ((λ i. (eq-eqb p p refl) i && rest i))
+    (λ i. nat_eq p (one i) && starts_with nat_eq xs ps) ∙ ((λ i. eq-eqb p p refl i && rest i))
 
 -- a list names the keys with its prefix
 pub listing : (kind : Kind) → is_list kind ≡ true → kind ≡ Listing
@@ -300,7 +300,7 @@ module _ (rows : List Row) (sorted : IsSorted row_cmp rows) (bucket prefix : Lis
             let key = between r (get_or rows end filler) stop far (less_back row_total (get_or rows end filler) stop (before.0 end filler zero_le less)) (sym mine.0) refl in
             let soon : (get_or rows end filler).place < i = ltb-true _ i (sym (own_before bucket r.key i (get_or rows end filler) (key.0 ∙ mine.0) key.1) ∙ before.0 end filler zero_le less) in
             let within : (get_or rows end filler).place < n = omega (arith, soon) in
-            let no : false ≡ true = sym (point r at .1 end filler same lt) ∙ (own_before r.bucket r.key n (get_or rows end filler) key.0 key.1 ∙ lt-ltb _ n within) in cc
+            let no : false ≡ true = sym ((point r at).1 end filler same lt) ∙ (own_before r.bucket r.key n (get_or rows end filler) key.0 key.1 ∙ lt-ltb _ n within) in cc
         | inr more ↦ more
       ]
 

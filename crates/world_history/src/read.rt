@@ -63,7 +63,9 @@ fn is_written(index: &Index<'_>, j: usize, bucket: &Bytes, key: &Bytes, v: Versi
     ensures { result ≡ is_written index.now.records.now j bucket.now key.now v }
 {
     let order = index.order.as_slice();
-    for k in entries_before(order, v.id, 0)..entries_before(order, v.id, j) {
+    let low = entries_before(order, v.id, 0);
+    let high = entries_before(order, v.id, j);
+    for k in low..high {
         if writes_at(index, bucket, key, v, order[k].1) {
             return true;
         }

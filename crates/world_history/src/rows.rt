@@ -153,11 +153,11 @@ impl<'a> Table<'a> {
         ensures bound { result ≤ length self.now.rows.items }
         ensures end { IsKeyEnd self.now.rows.items k (length self.now.index.records.now) result }
     {
-        let row = &self.rows[k];
+        let rows = self.rows.as_slice();
         before(
-            self.rows.as_slice(),
-            &row.bucket,
-            &row.key,
+            rows,
+            &rows[k].bucket,
+            &rows[k].key,
             self.index.records.len(),
         )
     }
