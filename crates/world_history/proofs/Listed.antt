@@ -87,6 +87,17 @@ listed_there rows k bucket prefix e = by_row (slice_get rows k) refl e
     by_row None at t = let no : false ≡ true = t in cc
     by_row (Some r) at t = (r, slice_get_within rows k r at, (at, t))
 
+-- a row whose key isn't less than the prefix doesn't stand before what is named
+own_start : (bucket prefix : List ℕ) (r : Row) → r.bucket ≡ bucket → is_lt (slice_cmp nat_cmp r.key prefix) ≡ false → is_before bucket prefix 0 r ≡ false
+own_start bucket prefix r b k =
+    (λ i. is_lt (ordering_then (slice_cmp nat_cmp (b i) bucket) (ordering_then (slice_cmp nat_cmp r.key prefix) (nat_cmp r.place 0))))
+    ∙ ((λ i. is_lt (ordering_then (tied_itself nat_list_cmp_total bucket i) (ordering_then (slice_cmp nat_cmp r.key prefix) (nat_cmp r.place 0)))) ∙ by_order (slice_cmp nat_cmp r.key prefix) k)
+  where
+    by_order : (o : Ordering) → is_lt o ≡ false → is_lt (ordering_then o (nat_cmp r.place 0)) ≡ false
+    by_order Less e = e
+    by_order Equal e = none_before r.place
+    by_order Greater e = refl
+
 -- from place k on no row stands before those that are named
 abbrev pub NoneBefore : List Row → List ℕ → List ℕ → ℕ → Type 0
 NoneBefore rows bucket prefix k = (m : ℕ) (d : Row) → k ≤ m → m < length rows → is_before bucket prefix 0 (get_or rows m d) ≡ false
@@ -112,16 +123,8 @@ module _ (rows : List Row) (sorted : IsSorted row_cmp rows) (bucket prefix : Lis
       by_test true t =
           let parts = listed_parts bucket prefix r t in
           let at_key = starts_not_less prefix r.key parts.1 in
-          let not : is_before bucket prefix 0 r ≡ false = own_start r parts.0 at_key in
+          let not : is_before bucket prefix 0 r ≡ false = own_start bucket prefix r parts.0 at_key in
           let no : true ≡ false = sym e ∙ not in cc
-      where
-        own_start : (r : Row) → r.bucket ≡ bucket → is_lt (slice_cmp nat_cmp r.key prefix) ≡ false → is_before bucket prefix 0 r ≡ false
-        own_start r b k = (λ i. is_lt (ordering_then (slice_cmp nat_cmp (b i) bucket) (ordering_then (slice_cmp nat_cmp r.key prefix) (nat_cmp r.place 0)))) ∙ ((λ i. is_lt (ordering_then (tied_itself nat_list_cmp_total bucket i) (ordering_then (slice_cmp nat_cmp r.key prefix) (nat_cmp r.place 0)))) ∙ by_order (slice_cmp nat_cmp r.key prefix) k)
-          where
-            by_order : (o : Ordering) → is_lt o ≡ false → is_lt (ordering_then o (nat_cmp r.place 0)) ≡ false
-            by_order Less e = e
-            by_order Equal e = none_before r.place
-            by_order Greater e = refl
 
   -- where the row at k isn't named, nor any before it that could come behind it, none is from there on
   pub unlisted_from : (k : ℕ) → NoneBefore rows bucket prefix k → is_listed_at bucket prefix (slice_get rows k) ≡ false → (m : ℕ) (d : Row) → k ≤ m → m < length rows → is_listed bucket prefix (get_or rows m d) ≡ false

@@ -346,7 +346,7 @@ module _ (h : List Record) (rows : List Row) (t : IsTable h rows) (bucket key : 
 
   pub newest_some : (all : List (Option Version)) → AreNewest h rows all → follows_key rows high bucket key ≡ true → (d : Option Version) → IsNewestBelow (version_at h i bucket key) i (get_or all (high - 1) d)
   newest_some all told follows d =
-      let (r, some, at, same) = of_key_before h rows t.sorted bucket key high follows in
+      let (r, some, (at, same)) = of_key_before h rows t.sorted bucket key high follows in
       let next : high - 1 + 1 ≡ high = omega (arith, some) in
       let is : get_or all (high - 1) d ≡ newest_of (row_version h rows bucket key) high = told.newest (high - 1) r d at ∙ (λ t. newest_of (row_version h rows (same.0 t) (same.1 t)) (next t)) in
       newest_of_rows (get_or all (high - 1) d) (subst (IsNewestBelow (row_version h rows bucket key) high) (sym is) (newest_of-is (row_version h rows bucket key) high))

@@ -41,7 +41,7 @@ module _ (h : List Record) (rows : List Row) (sorted : IsSorted row_cmp rows) (k
     where
       by_test : (t : Bool) → follows_key rows k r.bucket r.key ≡ t → left ≡ cond t newest None → left ≡ newest_of versions k
       by_test true t is =
-          let (before, some, there, same) = of_key_before h rows sorted r.bucket r.key k t in
+          let (before, some, (there, same)) = of_key_before h rows sorted r.bucket r.key k t in
           let next : k - 1 + 1 ≡ k = omega (arith, some) in
           let lt : k - 1 < k = omega (arith, some) in
           is ∙ (old.last None some ∙ (old.each (k - 1) before None lt there ∙ (λ i. newest_of (row_version h rows (same.0 i) (same.1 i)) (next i))))

@@ -44,7 +44,9 @@ impl<'a> Past<'a> {
         let rows = self.table.rows.as_slice();
         let high = before(rows, bucket, key, i);
         if follows_key(rows, high, bucket, key) {
-            self.newest[high - 1]
+            let newest = self.newest.as_slice();
+            let last = high - 1;
+            newest[last]
         } else {
             None
         }

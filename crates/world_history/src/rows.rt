@@ -154,11 +154,7 @@ impl<'a> Table<'a> {
         ensures end { IsKeyEnd self.now.rows.items k (length self.now.index.records.now) result }
     {
         let rows = self.rows.as_slice();
-        before(
-            rows,
-            &rows[k].bucket,
-            &rows[k].key,
-            self.index.records.len(),
-        )
+        let row = &rows[k];
+        before(rows, &row.bucket, &row.key, self.index.records.len())
     }
 }

@@ -6,8 +6,8 @@ use Rattle.world_history.proofs.read.Read.covers_listed.Goals as goal
 pub before-k-requires : goal.before-k-requires
 before-k-requires c = subst (IsSorted row_cmp) (sym c.as_slice-rows.ensures.value) c.args.past.now.table.made.sorted
 
-pub loop-k-init : goal.loop-k-init
-loop-k-init c =
+pub loop-rows-init : goal.loop-rows-init
+loop-rows-init c =
     let read = c.args.self.now in
     let h = c.args.past.now.table.index.records.now in
     let rows = c.as_slice-rows.result.now in
