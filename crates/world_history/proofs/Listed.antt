@@ -214,6 +214,10 @@ module _ (h : List Record) (rows : List Row) (t : IsTable h rows) (i j : ℕ) (k
 
 -- ---- sums over the rows of a key
 
+sum_no : {X : Type 0} (f : X → ℕ) (xs : List X) → sum_by f (take 0 xs) ≡ 0
+sum_no f [] = refl
+sum_no f (x ∷ xs) = refl
+
 module _ {X : Type 0} (f : X → ℕ) (xs : List X) (d : X) where
   -- each of n counts one
   sum_ones : (k n : ℕ) → k + n ≤ length xs → ((m : ℕ) → k ≤ m → m < k + n → f (get_or xs m d) ≡ 1) → sum_by f (take (k + n) xs) ≡ sum_by f (take k xs) + n
@@ -275,7 +279,11 @@ module _ (rows : List Row) (sorted : IsSorted row_cmp rows) (bucket prefix : Lis
   -- none of those that stand before all that it names
   pub count_first : (k : ℕ) → k ≤ length rows → IsPartitionPoint (λ r. is_before bucket prefix 0 r ≡ true) (λ r. is_before bucket prefix 0 r ≡ false) rows k → sum_by one_of (take k rows) ≡ 0
   count_first k le point =
-      sum_nothing one_of rows filler 0 k le (λ m a b. let first : 0 ≤ m = omega arith in none_of (get_or rows m filler) (before_unlisted rows sorted bucket prefix (get_or rows m filler) (point.0 m filler first b)))
+      let same : 0 + k ≡ k = omega arith in
+      let inside : 0 + k ≤ length rows = omega (arith, le) in
+      sym (ap (λ x. sum_by one_of (take x rows)) same)
+      ∙ (sum_nothing one_of rows filler 0 k inside (λ m a b. let first : 0 ≤ m = omega arith in let lt : m < k = omega (arith, b) in none_of (get_or rows m filler) (before_unlisted rows sorted bucket prefix (get_or rows m filler) (point.0 m filler first lt)))
+      ∙ sum_no one_of rows)
 
   -- of the rows of a key those before place i
   pub count_next : (n k p end : ℕ) (r : Row) → slice_get rows k ≡ Some r → is_listed bucket prefix r ≡ true → r.place < n → i ≤ n → p ≤ length rows → end ≤ length rows → IsKeyEnd rows k n end →
@@ -299,7 +307,7 @@ module _ (rows : List Row) (sorted : IsSorted row_cmp rows) (bucket prefix : Lis
             let same : end ≤ end = omega arith in
             let here : get_or rows k filler ≡ r = get_or_from_slice_get rows k r filler at in
             let far : is_lt (row_cmp (get_or rows end filler) r) ≡ false = subst (λ x. is_lt (row_cmp (get_or rows end filler) x) ≡ false) here (not_less row_total rows sorted k end filler from lt) in
-            let stop = record { bucket = bucket; key = r.key; place = i } in
+            let stop : Row = record { bucket = bucket; key = r.key; place = i } in
             let key = between r (get_or rows end filler) stop far (less_back row_total (get_or rows end filler) stop (before.0 end filler zero_le less)) (sym mine.0) refl in
             let soon : (get_or rows end filler).place < i = ltb-true _ i (sym (own_before bucket r.key i (get_or rows end filler) (key.0 ∙ mine.0) key.1) ∙ before.0 end filler zero_le less) in
             let within : (get_or rows end filler).place < n = omega (arith, soon) in

@@ -22,4 +22,4 @@ returns-then-follows_key c =
     newest_some h rows (subst (IsTable h) (sym c.as_slice-rows.ensures.value) c.args.self.now.table.made) c.args.bucket.now c.args.key.now c.args.i c.before-high.result
     c.before-high.ensures.bound c.before-high.ensures.point c.as_slice-newest.result.now
     (subst (λ x. AreNewest h x c.as_slice-newest.result.now) (sym c.as_slice-rows.ensures.value) (subst (AreNewest h c.args.self.now.table.rows.items) (sym c.as_slice-newest.ensures.value) c.args.self.now.told))
-    (sym c.follows_key.ensures ∙ c.if-follows_key.true) c.index-newest-last.result
+    (sym c.follows_key.ensures ∙ c.if-follows_key.true) _
