@@ -20,7 +20,10 @@ fn delete_row(alloc: Global, index: &Index<'_>, place: usize) -> Result<Option<R
 {
     match &index.records[place] {
         Record::Began {
-            kind, bucket, key, ..
+            kind,
+            bucket,
+            key,
+            ..
         } if kind.is_delete() => Ok(Some(Row {
             bucket: Bytes::from_slice(alloc, bucket.as_slice())?,
             key: Bytes::from_slice(alloc, key.as_slice())?,

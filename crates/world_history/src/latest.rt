@@ -58,7 +58,10 @@ pub fn newest_upto(alloc: Global, table: &Table<'_>) -> Result<Vec<Option<Versio
     let mut all = Vec::new(alloc);
     let mut newest = None;
     for k in 0..rows.len() {
-        newest = newer(from_before(rows, k, newest), version_in(&table.index, rows[k].place));
+        newest = newer(
+            from_before(rows, k, newest),
+            version_in(&table.index, rows[k].place),
+        );
         match all.push(newest) {
             Ok(()) => {}
             Err(_) => return Err(Memory::Want),

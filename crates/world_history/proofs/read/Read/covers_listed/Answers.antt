@@ -55,7 +55,7 @@ loop-rows-preserved c =
       upto = bound;
       none = none_further rows read.bucket.now read.key.now c.loop-rows.k c.key_end-k.result up c.loop-rows.invariant.none;
       covers = covers_next h rows t read.began read.finished read.kind read.bucket.now read.key.now read.answer.now c.requires.list c.loop-rows.k c.key_end-k.result found.0 found.2.0 bound end
-      (subst (λ x. covers_key h read.began read.finished read.bucket.now read.key.now read.answer.now x.key ≡ true) here (sym c.covers_key.ensures ∙ c.if-not-covers_key.false)) c.loop-rows.invariant.covers;
+          (subst (λ x. covers_key h read.began read.finished read.bucket.now read.key.now read.answer.now x.key ≡ true) here (sym c.covers_key.ensures ∙ c.if-not-covers_key.false)) c.loop-rows.invariant.covers;
     }
 
 -- each named key was covered
