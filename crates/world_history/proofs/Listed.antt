@@ -2,13 +2,12 @@
 use Rattle.std.proofs.Common.{◌≡◌, ℕ, zero, suc, ◌+◌, ◌-◌, ◌<◌, ◌≤◌, Bool, true, false, ◌&&◌, List, [], ◌∷◌, Option, Some, None, nat_eq, nat_lt, length, get_or, take, slice_get, Ordering, eq-eqb, inl, inr, refl, ap, sym, ◌∙◌, subst, arith}
 use Rattle.std.specs.declared.cmp.Ordering.TheVariants.{Less, Equal, Greater}
 use Rattle.std.specs.List.{Contains, sum_by, starts_with}
-use Rattle.std.specs.Bool.{Decides}
 use Rattle.std.specs.List.Sorted.{IsSorted, IsPartitionPoint}
 use Rattle.std.specs.Ordering.{nat_cmp, ordering_then, is_lt, MatchOrdering}
 use Rattle.std.specs.Cmp.{ranks, nat_cmp_total, tied_itself}
 use Rattle.std.specs.Cmp.Lexicographic.{slice_cmp, nat_list_cmp_total}
 use Rattle.std.proofs.lemmas.Bool.{cases_lt, and_parts, eqb-true, lt-ltb, le-ltb, ltb-true}
-use Rattle.std.proofs.lemmas.List.{take_all, get_or_default}
+use Rattle.std.proofs.lemmas.List.{take_all}
 use Rattle.std.proofs.lemmas.List.Sums.{sum_by_more}
 use Rattle.std.proofs.lemmas.Option.{slice_get_within, slice_get-get_or, get_or_from_slice_get}
 use Rattle.std.proofs.lemmas.Slice.Eq.{bytes_eq-Decides}
@@ -20,12 +19,12 @@ use Rattle.history_model.specs.declared.record.Record.{Record}
 use Rattle.history_model.specs.Fresh.{IsAcknowledged}
 use Rattle.history_model.specs.Record.{is_list, names, same_bytes}
 use Rattle.world_history.specs.declared.rows.Row.{Row}
-use Rattle.world_history.specs.Table.{row_cmp, ack_at, IsTable, is_before, is_listed, is_listed_at, is_listed_before, IsKeyEnd, one_if}
+use Rattle.world_history.specs.Table.{row_cmp, IsTable, is_before, is_listed, is_listed_at, is_listed_before, IsKeyEnd, one_if}
 use Rattle.world_history.specs.Checks.{covers_key, covers_all}
 use Rattle.world_history.proofs.Newest.{not_covers, all_covers}
 use Rattle.world_history.proofs.Sorted.{not_less, less_back, ties, first_not, second_not}
 use Rattle.world_history.proofs.Table.{row_total, none_before, own_before, between, tied_bytes}
-use Rattle.world_history.proofs.Rowed.{row_out, row_within, acknowledged_in}
+use Rattle.world_history.proofs.Rowed.{acknowledged_in}
 
 -- ---- strings with a prefix
 

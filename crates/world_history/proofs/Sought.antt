@@ -17,7 +17,7 @@ use Rattle.world_history.proofs.Below.{any_below_at, any_below_none}
 use Rattle.world_history.proofs.Parts.{Begun}
 use Rattle.world_history.proofs.Order.{range_before, range_entry}
 use Rattle.world_history.proofs.Rowed.{row_in, row_out, in_range, range_in}
-use Rattle.world_history.proofs.Decided.{DeletesAs, deletes_at-Decides, WritesAs, writes_at-Decides}
+use Rattle.world_history.proofs.Decided.{DeletesAs, deletes_at-Decides, writes_at-Decides}
 
 -- ---- deletes
 

@@ -1,9 +1,5 @@
-use Rattle.std.proofs.Common.{◌≡◌, ◌≤◌, ◌<◌, ◌-◌, ◌+◌, ℕ, List, false, get_or, length, inl, inr, ap, sym, subst, ◌∙◌, arith}
-use Rattle.std.proofs.lemmas.Bool.{cases_lt}
-use Rattle.std.proofs.lemmas.List.{get_or_default}
+use Rattle.std.proofs.Common.{◌<◌, sym, subst, ◌∙◌, arith}
 use Rattle.world_history.specs.Index.{IsOrder}
-use Rattle.world_history.specs.Checks.{writes_at}
-use Rattle.world_history.proofs.Order.{range_before}
 use Rattle.world_history.proofs.Sought.{written_some, written_none}
 use Rattle.world_history.proofs.read.is_written.Goals as goal
 
@@ -12,7 +8,7 @@ pub returns-then-writes_at : goal.returns-then-writes_at
 returns-then-writes_at c =
     let h = c.args.index.now.records.now in
     sym (written_some h c.as_slice-order.result.now (subst (IsOrder h) (sym c.as_slice-order.ensures.value) c.args.index.now.ordered) c.args.bucket.now c.args.key.now c.args.v c.args.j c.entries_before-low.result c.entries_before-high.result
-    c.entries_before-high.ensures.bound c.entries_before-low.ensures.point c.entries_before-high.ensures.point c.loop-k.k c.index-order-k.result c.loop-k.invariant.from c.loop-k-test.true (sym c.writes_at.ensures ∙ c.if-writes_at.true))
+    c.entries_before-high.ensures.bound c.entries_before-low.ensures.point c.entries_before-high.ensures.point c.loop-k.k _ c.loop-k.invariant.from c.loop-k-test.true (sym c.writes_at.ensures ∙ c.if-writes_at.true))
 
 -- none passes
 pub returns : goal.returns

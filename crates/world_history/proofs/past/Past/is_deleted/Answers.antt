@@ -1,4 +1,4 @@
-use Rattle.std.proofs.Common.{◌≡◌, ◌≤◌, ◌<◌, ◌-◌, IsSorted, sym, subst, ◌∙◌, arith}
+use Rattle.std.proofs.Common.{◌≤◌, ◌<◌, ◌-◌, IsSorted, sym, subst, ◌∙◌, arith}
 use Rattle.world_history.specs.Table.{row_cmp, AreDeletes}
 use Rattle.world_history.proofs.Sought.{deleted_some, deleted_none}
 use Rattle.world_history.proofs.past.Past.is_deleted.Goals as goal

@@ -1,6 +1,6 @@
-use Rattle.std.proofs.Common.{◌≡◌, ◌<◌, ◌-◌, IsSorted, length, sym, subst, ap, ◌∙◌, arith}
+use Rattle.std.proofs.Common.{IsSorted, sym, subst, ◌∙◌}
 use Rattle.world_history.specs.Table.{row_cmp, IsTable, AreNewest}
-use Rattle.world_history.proofs.Rowed.{newest_none, newest_some, of_key_before}
+use Rattle.world_history.proofs.Rowed.{newest_none, newest_some}
 use Rattle.world_history.proofs.past.Past.newest_before.Goals as goal
 
 pub before-high-requires : goal.before-high-requires

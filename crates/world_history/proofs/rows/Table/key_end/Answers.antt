@@ -1,8 +1,8 @@
-use Rattle.std.proofs.Common.{◌≡◌, ◌<◌, ◌≤◌, Some, Option, IsSorted, true, false, get_or, slice_get, length, refl, ap, sym, subst, ◌∙◌}
+use Rattle.std.proofs.Common.{◌≡◌, ◌<◌, Some, Option, true, false, length, refl, ap, sym, subst, ◌∙◌}
 use Rattle.std.specs.List.Sorted.{IsPartitionPoint}
 use Rattle.std.proofs.lemmas.Option.{slice_get_read}
 use Rattle.world_history.specs.declared.rows.Row.{Row}
-use Rattle.world_history.specs.Table.{row_cmp, ack_at, IsTable, is_before, IsKeyEnd}
+use Rattle.world_history.specs.Table.{ack_at, IsTable, is_before, IsKeyEnd}
 use Rattle.world_history.proofs.Rowed.{row_out, row_within}
 use Rattle.world_history.proofs.Listed.{end_further}
 use Rattle.world_history.proofs.rows.Table.key_end.Goals as goal
@@ -18,7 +18,7 @@ returns-clause-end c =
     (λ r there.
     let same : ◌≡◌ {A = Option Row} (Some c.index-rows-k.result) (Some r) = sym at ∙ there in
     let is : c.index-rows-k.result ≡ r = cc in
-    subst (λ x. IsPartitionPoint (λ y. is_before x.bucket x.key n y ≡ true) (λ y. is_before x.bucket x.key n y ≡ false) rows c.before-2.result) (sym c.index-rows-k.is ∙ is) c.before-2.ensures.point)
+    subst (λ x. IsPartitionPoint (λ y. is_before x.bucket x.key n y ≡ true) (λ y. is_before x.bucket x.key n y ≡ false) rows c.before-2.result) is c.before-2.ensures.point)
 
 -- the row itself stands before it
 pub returns-clause-further : goal.returns-clause-further
