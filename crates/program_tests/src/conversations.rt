@@ -161,7 +161,8 @@ fn two_blocks_with_each_call_failing(rt: HostRuntime) -> Result<(), Fail> {
 
 /// A put and a get that are signed.
 fn signed_requests(alloc: Global) -> Result<Conversation, Fail> {
-    let [(asks, answers), ..] = SIGNED_GET;
+    let rows = SIGNED_GET;
+    let (asks, answers) = rows[0];
     Ok(Conversation {
         configuration: signed::configuration(alloc)?,
         asks: asks.to_vec(alloc)?,
