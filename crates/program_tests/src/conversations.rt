@@ -212,10 +212,16 @@ fn wanted(it: &Conversation, head: usize, count: usize) -> &[u8] {
     }
 }
 
-/// The first byte after which a put and a get are cut and answered otherwise than they should. The layout changes once the put
-/// has reached the cluster.
-fn differing(alloc: Global, it: &Conversation, head: usize) -> Result<Option<usize>, Fail> {
-    for count in 0..=it.asks.len() {
+/// The first byte from `from` to `to` after which a put and a get are cut and answered otherwise than they should. The layout
+/// changes once the put has reached the cluster.
+fn differing(
+    alloc: Global,
+    it: &Conversation,
+    head: usize,
+    from: usize,
+    to: usize,
+) -> Result<Option<usize>, Fail> {
+    for count in from..=to {
         let mut link = recorded(alloc, it.asks.get(..count).unwrap_or(b""), 65_536)?;
         let end = served_with(alloc, &it.configuration, ONE_CONNECTION, &mut link)?;
         let lines = if count < head.saturating_add(3) {
@@ -231,16 +237,24 @@ fn differing(alloc: Global, it: &Conversation, head: usize) -> Result<Option<usi
     Ok(None)
 }
 
+/// A signed put's head has 398 bytes.
 #[test]
-fn signed_requests_cut_after_each_byte(rt: HostRuntime) -> Result<(), Fail> {
+fn signed_put_cut_after_each_byte(rt: HostRuntime) -> Result<(), Fail> {
     let it = signed_requests(rt.alloc())?;
-    assert_eq!(rt; differing(rt.alloc(), &it, 398)?, None);
+    assert_eq!(rt; differing(rt.alloc(), &it, 398, 0, 400)?, None);
+    Ok(())
+}
+
+#[test]
+fn signed_get_cut_after_each_byte(rt: HostRuntime) -> Result<(), Fail> {
+    let it = signed_requests(rt.alloc())?;
+    assert_eq!(rt; differing(rt.alloc(), &it, 398, 401, it.asks.len())?, None);
     Ok(())
 }
 
 #[test]
 fn a_change_cut_after_each_byte(rt: HostRuntime) -> Result<(), Fail> {
     let it = with_a_change(rt.alloc())?;
-    assert_eq!(rt; differing(rt.alloc(), &it, 47)?, None);
+    assert_eq!(rt; differing(rt.alloc(), &it, 47, 0, it.asks.len())?, None);
     Ok(())
 }

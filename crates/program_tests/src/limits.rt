@@ -1,6 +1,6 @@
-//! How many bytes a configuration may have, and how many may be put or copied in all.
+//! How many bytes may be put or copied in all.
 use crate::recorder::recorded;
-use crate::served::{Ended, ONE_CONNECTION, served_over, served_with};
+use crate::served::served_over;
 use lab_outside::Status;
 use std::alloc::Global;
 use std::test::Fail;
@@ -50,25 +50,5 @@ fn more_bytes_than_are_kept(rt: HostRuntime) -> Result<(), Fail> {
     let (status, output, answers) = copied(rt.alloc(), 32)?;
     assert_eq!(rt; (status, answers), (Status::Limit, 32));
     assert!(rt; output.ends_with(b"limit kept 536870912\n"));
-    Ok(())
-}
-
-/// How a server ended whose configuration is a comment of so many bytes.
-fn commented(alloc: Global, count: usize) -> Result<Ended, Fail> {
-    let mut text = Vec::new(alloc);
-    text.resize(count, b'#')?;
-    let mut link = recorded(alloc, b"", 16)?;
-    served_with(alloc, &text, ONE_CONNECTION, &mut link)
-}
-
-/// A comment of 8,388,608 bytes has no buckets, and one byte more is too much.
-#[test]
-fn limit_of_a_configuration(rt: HostRuntime) -> Result<(), Fail> {
-    let end = commented(rt.alloc(), 8_388_608)?;
-    assert_eq!(rt; end.status, Status::Refused);
-    assert_eq!(rt; end.output.as_slice(), b"bad field buckets\n".as_slice());
-    let end = commented(rt.alloc(), 8_388_609)?;
-    assert_eq!(rt; end.status, Status::Limit);
-    assert_eq!(rt; end.output.as_slice(), b"limit input 8388608\n".as_slice());
     Ok(())
 }
