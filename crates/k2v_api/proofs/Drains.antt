@@ -7,7 +7,7 @@ use Rattle.store_model.specs.declared.event.Event.TheVariants.{Deliver}
 use Rattle.k2v_text.specs.declared.event.ItemEvent.TheVariants.{Common}
 use Rattle.k2v_text.specs.declared.event.ItemTold.{ItemTold}
 use Rattle.k2v_model.specs.Run.{State, Outcome, silent, delivers, then_drains, drains}
-use Rattle.k2v_world.proofs.Leads.{drains_one, drains_none}
+use Rattle.k2v_model.proofs.Leads.{drains_one, drains_none}
 use Rattle.k2v_world.specs.declared.world.ItemWorld.{ItemWorld}
 use Rattle.k2v_world.specs.Stands.{IsItems, HasItems}
 use Rattle.k2v_api.specs.declared.stop.Stop.{Stop}

@@ -11,7 +11,7 @@ use Rattle.store_model.specs.declared.event.Event.TheVariants.{Drain}
 use Rattle.k2v_text.specs.declared.event.ItemEvent.TheVariants.{Common}
 use Rattle.k2v_text.specs.declared.event.ItemTold.{ItemTold}
 use Rattle.k2v_model.specs.Run.{State}
-use Rattle.k2v_world.proofs.Leads.{drains_quietly, drains_empty}
+use Rattle.k2v_model.proofs.Leads.{drains_quietly, drains_empty}
 use Rattle.k2v_world.specs.declared.world.ItemWorld.{ItemWorld}
 use Rattle.k2v_world.specs.Stands.{IsItems, PlaysEvent, OverflowsEvent, EventLacksRoom}
 use Rattle.k2v_api.specs.declared.stop.Stop.{Stop}
