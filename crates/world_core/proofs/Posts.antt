@@ -312,7 +312,7 @@ module _ {R : Type 0} where
         lost = all_set IsOver p.over (number - 1) lost refl p.lost;
         marks_are = ap (map mark_of) (sym now) ∙ map-set mark_of (p.over ++ slots) (number - 1) lost ∙ ap (λ ms. slice_set ms (number - 1) (mark_of lost)) p.marks_are;
         held = subst (λ xs. AllZip IsHeld xs messages) now
-        (zip_set IsHeld (p.over ++ slots) messages (number - 1) h.slot lost (get_within p.over slots (number - 1) h.within ∙ h.there) (λ m _. tt) p.held);
+            (zip_set IsHeld (p.over ++ slots) messages (number - 1) h.slot lost (get_within p.over slots (number - 1) h.within ∙ h.there) (λ m _. tt) p.held);
         first = p.first;
         sent = p.sent;
         bytes = p.bytes;

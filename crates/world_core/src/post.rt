@@ -1,5 +1,5 @@
 //! Every message that was ever sent, and what became of it.
-ghost use Rattle.std.specs.Prelude.{◌≡◌, ◌⊎◌, ◌+◌, ◌<◌, ◌≤◌, ◌^◌, ℕ, suc, Some, None, [], ◌∷◌, ◌++◌, false, true, length, map, drop, OnOk, IfOk, IfErr, IfSome, IfNone};
+ghost use Rattle.std.specs.Prelude.{◌≡◌, ◌⊎◌, ◌<◌, ◌≤◌, ◌^◌, ℕ, suc, Some, None, [], ◌∷◌, ◌++◌, false, true, length, map, drop, OnOk, IfOk, IfErr, IfSome, IfNone};
 ghost use Rattle.crdt_core.specs.Outcomes.{WantOr};
 ghost use Rattle.layout_roles.specs.declared.layout.Layout.{Layout};
 ghost use Rattle.table_schema.specs.Words.{Words};

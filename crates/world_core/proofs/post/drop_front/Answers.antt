@@ -1,4 +1,4 @@
-use Rattle.std.proofs.Common.{sym, ap, drop, ◌∙◌, subst, arith}
+use Rattle.std.proofs.Common.{ap, drop, ◌∙◌}
 use Rattle.std.proofs.lemmas.List.{drop-drop}
 use Rattle.world_core.proofs.post.drop_front.Goals as goal
 

@@ -1,4 +1,4 @@
-use Rattle.std.proofs.Common.{refl, ap, map, drop, ◌∙◌}
+use Rattle.std.proofs.Common.{refl, ap, map, ◌∙◌}
 use Rattle.world_core.specs.Parts.{forgotten}
 use Rattle.world_core.proofs.PostsForgotten.{forgot_post}
 use Rattle.world_core.proofs.post.Post.forget_delivered.Goals as goal
