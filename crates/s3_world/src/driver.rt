@@ -381,12 +381,7 @@ impl<F: Flows> Driver<F> {
     }
 
     // A request begins its next phase.
-    fn begins(
-        &mut self,
-        request: u64,
-        flow: Flow,
-        phase: Phase<AnyRow>,
-    ) -> Result<Told, Memory>
+    fn begins(&mut self, request: u64, flow: Flow, phase: Phase<AnyRow>) -> Result<Told, Memory>
         requires stands { IsWorld any_join words self.old.world }
         requires there { IsSome (asked_at self.old.requests request) }
         requires short { IsShort phase }
