@@ -14,8 +14,6 @@ pub mod Ranges
 pub mod Steps
 pub mod Numbers
 pub mod Saids
-pub mod Telling
-pub mod Keys
 pub mod Keyed
 pub mod Orderly
 pub mod Printed

@@ -51,13 +51,16 @@ use Rattle.audit_runs.specs.Alike.{DifferInCut, DifferInCuts}
 use Rattle.audit_runs.specs.Told.{stages_by}
 use Rattle.audit_sheets.specs.Sheets.{IsOrderly, AreInRange, IsStagedInRange}
 use Rattle.audit_accounts.specs.Saying.{IsOrderlyLine, TellOrderly}
-use Rattle.audit_accounts.proofs.Telling.{GivenTells, step_tells}
+use Rattle.audit_runs.proofs.Telling.{GivenTells, HasPlain, step_tells}
 
 abbrev AreOrderly : List (Line Applied) → Type 0
 AreOrderly ls = AllByRecursion IsOrderlyLine ls
 
+orderly_plain : HasPlain IsOrderlyLine
+orderly_plain = record { got = λ m. tt; sent = λ m a b k. tt; synced = λ n v. tt; dropped = λ n ts id. tt; ended = λ q word. tt; done = λ q word version size md5. tt }
+
 step_orderly : (w : World) (st : Step AnyRow) (choice : Decision) → GivenTells IsOrderlyLine choice → AreOrderly (effects any_join words layouts trio stage_trio w st choice).tells
-step_orderly w st choice h = step_tells IsOrderlyLine (λ m. tt) (λ m a b k. tt) (λ n v. tt) (λ n ts id. tt) (λ q word. tt) w st choice h
+step_orderly w st choice h = step_tells IsOrderlyLine orderly_plain w st choice h
 
 -- ---- requests print no layout
 

@@ -28,7 +28,7 @@ use Rattle.audit_sheets.specs.Sheets.{nodes_on, IsSet, IsOrderly, IsRanked, AreI
 use Rattle.audit_sheets.proofs.Computed.{parts_in_order, ranked}
 use Rattle.audit_sheets.proofs.Runs.{all_weaker}
 use Rattle.audit_accounts.specs.Saying.{IsOrderlyLine, TellOrderly}
-use Rattle.audit_accounts.proofs.Telling.{GivenTells}
+use Rattle.audit_runs.proofs.Telling.{GivenTells}
 use Rattle.audit_accounts.proofs.Orderly.{ComputedAreOrderly, EventsStage, StagesInRange, ApplyGives, AppliesGive, lawful_gives, next_staged, given_orderly_so}
 
 -- a lawful layout that is given as it was printed is one that is computed, with another cut perhaps

@@ -36,7 +36,7 @@ use Rattle.audit_model.specs.Audit.{staged_in, as_printed, as_computed, IsGiven}
 use Rattle.audit_runs.specs.Alike.{AreSameButCut, DifferInCut}
 use Rattle.audit_runs.proofs.Prints.{print_at_is, both_of}
 use Rattle.audit_findings.specs.Next.{turned, Chosen}
-use Rattle.audit_findings.proofs.Orders.{order_ascends}
+use Rattle.layout_judge.proofs.Orders.{order_ascends}
 use Rattle.audit_findings.proofs.Sets.{IsOrdered, AreOrdered, IsOrderedPrint, all_ordered}
 use Rattle.audit_findings.proofs.Staged.{OneOrNot, one_staged}
 

@@ -11,7 +11,6 @@ pub mod Following
 pub mod Passing
 pub mod Judging
 pub mod Staged
-pub mod Orders
 pub mod Sets
 pub mod Choosing
 pub mod Some

@@ -12,7 +12,7 @@ use Rattle.audit_model.specs.declared.said.Said.{Said}
 use Rattle.audit_model.specs.declared.said.Said.TheVariants as said
 use Rattle.audit_model.specs.Printed.{sets_from}
 use Rattle.audit_prints.specs.Sets.{has_high}
-use Rattle.audit_prints.proofs.Orders.{order_ascends}
+use Rattle.layout_judge.proofs.Orders.{order_ascends}
 
 -- ---- no node is high
 

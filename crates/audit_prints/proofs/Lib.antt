@@ -1,5 +1,4 @@
 mod Bounds
-mod Orders
 mod Fitting
 mod Given
 mod Named

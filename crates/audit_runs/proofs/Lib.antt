@@ -13,9 +13,10 @@ pub mod Texts
 pub mod Tails
 pub mod Tellings
 pub mod Fixed
-pub mod Steps
+pub mod Telling
 pub mod Zones
 pub mod Keys
+pub mod Events
 pub mod Unbroken
 pub mod Numbers
 pub mod Heads

@@ -189,15 +189,91 @@ const UNFINISHED_READS_OWE_NOTHING: [Told; 9] = [
     Told::Judged(false, 0),
 ];
 
+const LIST_WITH_VERSIONS_OUT_OF_ORDER: [Told; 11] = [
+    Told::Began(1, Kind::Put, "a/x"),
+    Told::Began(2, Kind::Put, "a/x"),
+    Told::Version(2, 6, 2),
+    Told::Version(1, 5, 1),
+    Told::Began(3, Kind::List, "a/"),
+    Told::Listed(3, "a/x", 6, 2),
+    Told::Judged(true, 2),
+    Told::Began(4, Kind::List, "a/"),
+    // The put that was acknowledged last isn't the newest.
+    Told::Listed(4, "a/x", 5, 1),
+    Told::Judged(false, 4),
+    Told::Stale(4),
+];
+
+const LIST_OF_KEYS_BETWEEN_OTHERS: [Told; 15] = [
+    Told::Began(1, Kind::Put, "a"),
+    Told::Version(1, 1, 1),
+    // The first key behind those with the prefix.
+    Told::Began(2, Kind::Put, "a0"),
+    Told::Version(2, 2, 2),
+    Told::Began(3, Kind::Put, "a/x"),
+    Told::Version(3, 3, 3),
+    Told::Began(4, Kind::List, "a/"),
+    Told::Listed(4, "a/x", 3, 3),
+    Told::Judged(true, 1),
+    Told::Began(5, Kind::Put, "a/"),
+    Told::Version(5, 4, 5),
+    Told::Began(6, Kind::List, "a/"),
+    // It doesn't show the prefix itself.
+    Told::Listed(6, "a/x", 3, 3),
+    Told::Judged(false, 3),
+    Told::Stale(6),
+];
+
+const NONE_BY_THE_FIRST_OF_TWO_DELETES: [Told; 17] = [
+    Told::Began(1, Kind::Delete, "a"),
+    Told::Version(1, 9, 1),
+    Told::Began(2, Kind::Delete, "b"),
+    Told::Version(2, 9, 2),
+    Told::Began(3, Kind::Put, "a"),
+    Told::Version(3, 5, 3),
+    Told::Began(4, Kind::Delete, "a"),
+    Told::Version(4, 3, 4),
+    Told::Began(5, Kind::Get, "a"),
+    Told::Nothing(5),
+    Told::Judged(true, 3),
+    Told::Began(6, Kind::Put, "c"),
+    Told::Version(6, 1, 6),
+    Told::Began(7, Kind::Get, "c"),
+    // Only other keys were deleted.
+    Told::Nothing(7),
+    Told::Judged(false, 4),
+    Told::Stale(7),
+];
+
+const NUMBER_OF_TWO_PUTS: [Told; 13] = [
+    Told::Began(1, Kind::Put, "a"),
+    Told::Version(1, 5, 1),
+    Told::Began(1, Kind::Put, "b"),
+    Told::Version(1, 6, 1),
+    Told::Began(2, Kind::Get, "a"),
+    Told::Version(2, 5, 1),
+    Told::Began(3, Kind::Get, "b"),
+    Told::Version(3, 6, 1),
+    Told::Judged(true, 2),
+    Told::Began(4, Kind::Get, "b"),
+    Told::Version(4, 5, 1),
+    Told::Judged(false, 3),
+    Told::Stale(4),
+];
+
 #[test]
 fn histories_are_judged(rt: HostRuntime) -> Result<(), Fail> {
-    let histories: [&[Told]; 6] = [
+    let histories: [&[Told]; 10] = [
         &NEWEST_ACKNOWLEDGED_VERSION,
         &LATER_TIMESTAMP_WITH_SMALLER_IDENTIFIER,
         &NONE_BY_A_DELETE,
         &LIST_WITH_AN_ABSENT_KEY,
         &COPIES_AND_THEIR_VERSIONS,
         &UNFINISHED_READS_OWE_NOTHING,
+        &LIST_WITH_VERSIONS_OUT_OF_ORDER,
+        &LIST_OF_KEYS_BETWEEN_OTHERS,
+        &NONE_BY_THE_FIRST_OF_TWO_DELETES,
+        &NUMBER_OF_TWO_PUTS,
     ];
     for told in histories {
         assert!(rt; is_judged(rt.alloc(), told)?);

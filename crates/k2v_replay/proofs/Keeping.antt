@@ -15,7 +15,7 @@ use Rattle.k2v_text.specs.declared.event.ItemEvent.{ItemEvent}
 use Rattle.k2v_text.specs.declared.event.ItemEvent.TheVariants.{Common}
 use Rattle.k2v_text.specs.Events.{Turn, after}
 use Rattle.k2v_text.specs.Played.{Step, acts_of, outcome, deliveries, steps_of, GoesOn, AllGoOn, ArePlayed}
-use Rattle.k2v_replay.proofs.Leads.{fit_more, delivers_lead}
+use Rattle.k2v_model.proofs.Leads.{fit_more, delivers_lead}
 use Rattle.k2v_replay.specs.Moments.{IsMoment, between, within, KeepsItems}
 
 -- ---- turns that were played fit

@@ -23,7 +23,7 @@ use Rattle.k2v_model.specs.Run.{World, Moving, State, Outcome, start, silent, re
 use Rattle.k2v_text.specs.declared.event.ItemEvent.{ItemEvent}
 use Rattle.k2v_text.specs.declared.event.ItemEvent.TheVariants.{Common, Put, Delete, Get}
 use Rattle.k2v_text.specs.Played.{Step, outcome, deliveries, steps_of, HasSent, GoesOn}
-use Rattle.k2v_replay.proofs.Leads.{Leads, delivers_lead, drains_lead}
+use Rattle.k2v_model.proofs.Leads.{Leads, delivers_lead, drains_lead}
 
 one_leads : (s : State) (b : Bool) (x y : Outcome) → Leads s x → Leads s y → Leads s (if b then x else y)
 one_leads s true x y h k = h

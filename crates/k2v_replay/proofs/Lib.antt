@@ -1,5 +1,4 @@
 pub mod Turns
-pub mod Leads
 pub mod Leading
 pub mod Staged
 pub mod Lawful

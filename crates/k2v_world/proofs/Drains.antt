@@ -10,7 +10,7 @@ use Rattle.k2v_model.specs.Run.{Moving, State, Outcome, silent, delivers, then_d
 use Rattle.k2v_text.specs.declared.event.ItemTold.{ItemTold}
 use Rattle.k2v_world.specs.declared.world.ItemWorld.{ItemWorld}
 use Rattle.k2v_world.specs.Stands.{IsItems, HasItems, Does, Plays, Overflows}
-use Rattle.k2v_world.proofs.Leads.{fit_more, room_first, room_rest, run_more, delivers_lead, drains_quietly, drains_empty, drains_one, drains_none}
+use Rattle.k2v_model.proofs.Leads.{fit_more, room_first, room_rest, run_more, delivers_lead, drains_quietly, drains_empty, drains_one, drains_none}
 
 -- the outcome of some deliveries, and then of others
 abbrev after_these : List Moving → List ItemLine → Outcome → Outcome

@@ -3,7 +3,6 @@ pub mod Causes
 pub mod Delivers
 pub mod Drains
 pub mod Follows
-pub mod Leads
 pub mod Opens
 pub mod Places
 pub mod Plain

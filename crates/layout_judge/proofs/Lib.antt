@@ -3,3 +3,4 @@ pub mod Fitting
 pub mod Kept
 pub mod Marking
 pub mod Weighed
+pub mod Orders

@@ -1,7 +1,7 @@
 -- Sums and counts of the numbers below one, and what the code counts.
-use Rattle.std.proofs.Common.{◌≡◌, ℕ, zero, suc, ◌<◌, ◌≤◌, Bool, true, false, ◌&&◌, cond, List, Option, Some, None, is_some, nat_lt, length, slice_get, option_map, inl, inr, refl, ap, sym, subst, ◌∙◌, arith}
+use Rattle.std.proofs.Common.{◌≡◌, ℕ, zero, suc, ◌<◌, ◌≤◌, Bool, true, false, ◌&&◌, cond, List, Option, Some, None, is_some, nat_eq, nat_lt, length, slice_get, option_map, inl, inr, refl, ap, sym, subst, ◌∙◌, arith}
 use Rattle.std.proofs.lemmas.Bool.{cases_lt, le-ltb, and_right}
-use Rattle.std.specs.List.{sum_by}
+use Rattle.std.specs.List.{sum_by, starts_with}
 use Rattle.std.proofs.lemmas.Bool.Decides.{same_from_decides}
 use Rattle.std.proofs.lemmas.Slice.Eq.{bytes_eq-Decides}
 use Rattle.crdt_rows.specs.declared.version.Version.{Version}
@@ -11,10 +11,11 @@ use Rattle.history_model.specs.declared.record.Record.TheVariants.{Began, Finish
 use Rattle.history_model.specs.Record.{is_read, is_write, is_list, finish, acknowledged, is_some_with, begins, names, same_bytes}
 use Rattle.history_model.specs.Pairs.{is_owed, is_pair, sum_below, count_below, pair_count}
 use Rattle.world_history.specs.declared.rows.Row.{Row}
-use Rattle.world_history.specs.Table.{ack_of, sum_of, IsTable, is_of, one_if}
+use Rattle.world_history.specs.Table.{ack_of, sum_of, IsTable, is_of, is_listed_before, one_if}
 use Rattle.world_history.specs.Checks.{owed_of, owed}
 use Rattle.world_history.proofs.Places.{acknowledged-later}
 use Rattle.world_history.proofs.Newest.{one_key, own_key}
+use Rattle.world_history.proofs.Listed.{names_begun}
 
 -- sums of the same numbers
 pub sum_below_same : (f g : ℕ → ℕ) (n : ℕ) → ((k : ℕ) → k < n → f k ≡ g k) → sum_below f n ≡ sum_below g n
@@ -117,4 +118,38 @@ module _ (h : List Record) (rows : List Row) (t : IsTable h rows) (i : ℕ) (kin
   owed_to_key le =
       t.told is_mine
       ∙ (sum_below_same _ (λ b. one_if (is_owed h i kind bucket own b)) (length h) (λ b lt. owed_row b (slice_get h b))
+      ∙ count_below_front (is_owed h i kind bucket own) i (length h) le (λ b above. no_late_owed h i b kind bucket own above))
+
+moved : (a b c : Bool) → ((a && b) && c) ≡ (b && (a && c))
+moved true true c = refl
+moved true false c = refl
+moved false true c = refl
+moved false false c = refl
+
+-- the rows of the keys that it names, before its place, are what a list is owed
+module _ (h : List Record) (rows : List Row) (t : IsTable h rows) (i : ℕ) (kind : Kind) (bucket own : List ℕ) (list : is_list kind ≡ true) where
+  abbrev is_named : Row → ℕ
+  is_named r = one_if (is_listed_before bucket own i r)
+
+  listed_row : (b : ℕ) (o : Option Record) →
+      sum_of is_named (ack_of h b o)
+      ≡ one_if (begins (λ q other place key. is_write other && (names kind own key && (same_bytes place bucket && is_some_with (λ a. nat_lt a.0 i) (acknowledged h b q)))) o)
+  listed_row b None = refl
+  listed_row b (Some (Finished q answer)) = refl
+  listed_row b (Some (Ended q cause)) = refl
+  listed_row b (Some (Began q node other place key)) = by_case (is_write other) (acknowledged h b q)
+    where
+      by_case : (w : Bool) (o : Option (ℕ × Version)) →
+          sum_of is_named (cond w (option_map (λ (a : ℕ × Version). record { bucket = place; key = key; place = a.0 }) o) None)
+          ≡ one_if (w && (names kind own key && (same_bytes place bucket && is_some_with (λ a. nat_lt a.0 i) o)))
+      by_case false o = refl
+      by_case true None = sym (ap one_if (and_right (names kind own key) _ (and_right (same_bytes place bucket) _ refl)))
+      by_case true (Some a) =
+          ap one_if (moved (same_bytes place bucket) (starts_with nat_eq key own) (nat_lt a.0 i))
+          ∙ sym (λ j. one_if (names_begun kind list own key j && (same_bytes place bucket && nat_lt a.0 i)))
+
+  pub owed_to_list : i ≤ length h → sum_by (λ r. one_if (is_listed_before bucket own i r)) rows ≡ count_below (is_owed h i kind bucket own) i
+  owed_to_list le =
+      t.told is_named
+      ∙ (sum_below_same _ (λ b. one_if (is_owed h i kind bucket own b)) (length h) (λ b lt. listed_row b (slice_get h b))
       ∙ count_below_front (is_owed h i kind bucket own) i (length h) le (λ b above. no_late_owed h i b kind bucket own above))

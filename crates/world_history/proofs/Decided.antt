@@ -23,11 +23,11 @@ began_there : (h : List Record) (i q node : ℕ) (kind : Kind) (b bucket k key :
 began_there h i q node kind b bucket k key is eb ek = (node, is ∙ (λ t. Some (Began q node kind (eb t) (ek t))))
 
 module _ (h : List Record) (bucket key : List ℕ) where
-  abbrev DeletesAs : Version → ℕ → ℕ → Kind → List ℕ → List ℕ → Type 0
+  abbrev pub DeletesAs : Version → ℕ → ℕ → Kind → List ℕ → List ℕ → Type 0
   DeletesAs w place q kind b k =
       (is_delete kind ≡ true) × ((k ≡ key) × ((b ≡ bucket) × ((a : ℕ × Version) → acknowledged h place q ≡ Some a → ¬ Below a.1 w)))
 
-  deletes_at-Decides : (w : Version) (place : ℕ) → Decides (deletes_at h bucket key w place) (Begun (slice_get h place) (DeletesAs w place))
+  pub deletes_at-Decides : (w : Version) (place : ℕ) → Decides (deletes_at h bucket key w place) (Begun (slice_get h place) (DeletesAs w place))
   deletes_at-Decides w place =
       begins-Decides _ (DeletesAs w place)
       (λ q kind b k. Decides-and _ _ (Decides-itself (is_delete kind)) (Decides-and _ _ (bytes_eq-Decides k key) (Decides-and _ _ (bytes_eq-Decides b bucket)
@@ -61,11 +61,11 @@ module _ (h : List Record) (bucket key : List ℕ) where
       ))
       (any_below-Decides (deletes_at h bucket key w) (λ place. Begun (slice_get h place) (DeletesAs w place)) (deletes_at-Decides w) j)
 
-  abbrev WritesAs : Version → ℕ → ℕ → Kind → List ℕ → List ℕ → Type 0
+  abbrev pub WritesAs : Version → ℕ → ℕ → Kind → List ℕ → List ℕ → Type 0
   WritesAs v place q kind b k =
       (q ≡ v.id) × ((is_source kind ≡ true) × ((k ≡ key) × ((b ≡ bucket) × ((a : ℕ × Version) → acknowledged h place q ≡ Some a → a.1 ≡ v))))
 
-  writes_at-Decides : (v : Version) (place : ℕ) → Decides (writes_at h bucket key v place) (Begun (slice_get h place) (WritesAs v place))
+  pub writes_at-Decides : (v : Version) (place : ℕ) → Decides (writes_at h bucket key v place) (Begun (slice_get h place) (WritesAs v place))
   writes_at-Decides v place =
       begins-Decides _ (WritesAs v place)
       (λ q kind b k. Decides-and _ _ (Decides-eqb q v.id) (Decides-and _ _ (Decides-itself (is_source kind)) (Decides-and _ _ (bytes_eq-Decides k key) (Decides-and _ _ (bytes_eq-Decides b bucket)

@@ -8,3 +8,7 @@ pub mod Parts
 pub mod Order
 pub mod Table
 pub mod Rowed
+pub mod Sorted
+pub mod Listed
+pub mod Sought
+pub mod Upto

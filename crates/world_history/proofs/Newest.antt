@@ -1,10 +1,11 @@
 -- The newest of the versions at the numbers below one, and that a read of one key covers each where it covers it.
-use Rattle.std.proofs.Common.{◌≡◌, ℕ, ◌+◌, ◌<◌, Bool, true, false, ◌&&◌, List, Option, Some, None, nat_lt, slice_get, refl, ap, sym, ◌∙◌, subst, arith, Ordering, below_more}
+use Rattle.std.proofs.Common.{◌≡◌, ℕ, zero, suc, ◌+◌, ◌<◌, Bool, true, false, ◌&&◌, List, Option, Some, None, nat_lt, slice_get, refl, ap, sym, ◌∙◌, subst, arith, Ordering, below_more}
 use Rattle.std.specs.declared.cmp.Ordering.TheVariants.{Less, Equal, Greater}
 use Rattle.std.specs.Cmp.{tied_itself}
 use Rattle.std.specs.Ordering.{is_lt}
 use Rattle.std.proofs.lemmas.Bool.{and_parts, lt-ltb, ltb-true}
-use Rattle.std.proofs.lemmas.Bool.Decides.{same_from_decides}
+use Rattle.std.specs.Bool.{Decides}
+use Rattle.std.proofs.lemmas.Bool.Decides.{Decides-like, same_from_decides}
 use Rattle.std.proofs.lemmas.Slice.Eq.{bytes_eq-Decides}
 use Rattle.crdt_core.specs.LexLaws.{turned}
 use Rattle.crdt_rows.specs.declared.version.Version.{Version}
@@ -17,8 +18,9 @@ use Rattle.history_model.specs.declared.record.Record.{Record}
 use Rattle.history_model.specs.declared.record.Record.TheVariants.{Began, Finished, Ended}
 use Rattle.history_model.specs.Record.{is_write, is_list, acknowledged, names, same_bytes}
 use Rattle.history_model.specs.Fresh.{Below, IsAcknowledged, Covers}
-use Rattle.world_history.specs.Checks.{is_below, covers, covers_all, version_before, version_at_of, version_at, newer_of, IsNewestBelow}
-use Rattle.world_history.proofs.Parts.{is_below-Decides}
+use Rattle.world_history.specs.Checks.{is_none_or, is_below, covers, covers_key, covers_all, version_before, version_at_of, version_at, newer_of, newest_of, IsNewestBelow}
+use Rattle.world_history.proofs.Below.{all_below-Decides}
+use Rattle.world_history.proofs.Parts.{fails, is_none_or-Decides, is_below-Decides}
 use Rattle.world_history.proofs.Places.{acknowledged-later}
 use Rattle.world_history.proofs.Decided.{CoversAll, covers-Decides, covers_all-Decides}
 
@@ -51,7 +53,7 @@ newest_is p n w (k, lt, at) above = record {
   above = λ w' e m v less there. let same : w ≡ w' = cc in subst (λ x. is_below x v ≡ false) same (above m less v there);
 }
 
-newest_not : (p : ℕ → Option Version) (n : ℕ) → ((k : ℕ) → k < n → p k ≡ None) → IsNewestBelow p n None
+pub newest_not : (p : ℕ → Option Version) (n : ℕ) → ((k : ℕ) → k < n → p k ≡ None) → IsNewestBelow p n None
 newest_not p n none = record {
   none = λ e. none;
   some = λ w e. let no : ◌≡◌ {A = Option Version} None (Some w) = e in cc;
@@ -96,6 +98,18 @@ newest_more p n r old = step r (p n) refl old
             (below_more (λ k. (v : Version) → p k ≡ Some v → is_below a v ≡ false) n
             (λ k lt v at. old.above a refl k v lt at)
             (λ v at. let same : b ≡ v = cc in subst (λ x. is_below a x ≡ false) same t)))
+
+-- the newest that is computed is the newest
+pub newest_of-is : (p : ℕ → Option Version) (n : ℕ) → IsNewestBelow p n (newest_of p n)
+newest_of-is p zero = newest_none p
+newest_of-is p (suc n) = let next : n + 1 ≡ suc n = omega arith in subst (λ m. IsNewestBelow p m (newest_of p (suc n))) next (newest_more p n (newest_of p n) (newest_of-is p n))
+
+pub newest_of_none : (p : ℕ → Option Version) (n : ℕ) → ((m : ℕ) → m < n → p m ≡ None) → newest_of p n ≡ None
+newest_of_none p zero none = refl
+newest_of_none p (suc n) none =
+    let before = newest_of_none p n (λ m lt. let more : m < suc n = omega arith in none m more) in
+    let last : n < suc n = omega arith in
+    (λ t. newer_of (before t) (none n last t))
 
 -- a read that is no list names its own key alone
 pub one_key : (kind : Kind) → is_list kind ≡ false → (own key : List ℕ) → names kind own key ≡ true → own ≡ key
@@ -166,9 +180,21 @@ module _ (h : List Record) (i : ℕ) (bucket key : List ℕ) where
   pub placed : (w : Version) (a : IsAcknowledged h i bucket key w) → a.place < i
   placed w a = let later = acknowledged-later h a.place a.request _ a.finished in let before = a.before in omega arith
 
-module _ (h : List Record) (i j : ℕ) (kind : Kind) (bucket own : List ℕ) (answer : Answer) (no_list : is_list kind ≡ false) where
+module _ (h : List Record) (i j : ℕ) (bucket own : List ℕ) (answer : Answer) (key : List ℕ) where
+  -- what a read owes to the writes of a key that were acknowledged before it began
+  abbrev pub CoversKey : Type 0
+  CoversKey = (w : Version) → IsAcknowledged h i bucket key w → Covers h j bucket own answer key w
+
+  pub covers_key-Decides : Decides (covers_key h i j bucket own answer key) CoversKey
+  covers_key-Decides =
+      Decides-like _
+      (λ all w a. all a.place (placed h i bucket key w a) w (version_there h i bucket key w a))
+      (λ all place lt w at. all w (acknowledged_there h i bucket key place w at))
+      (all_below-Decides (λ place. is_none_or (covers h j bucket own answer key) (version_at h i bucket key place)) (λ place. (w : Version) → version_at h i bucket key place ≡ Some w → Covers h j bucket own answer key w)
+      (λ place. is_none_or-Decides _ _ (covers-Decides h bucket key own answer j) (version_at h i bucket key place)) i)
+
   -- what covers a version covers what isn't above it
-  covers_upto : (w v : Version) → is_below w v ≡ false → Covers h j bucket own answer own w → Covers h j bucket own answer own v
+  covers_upto : (w v : Version) → is_below w v ≡ false → Covers h j bucket own answer key w → Covers h j bucket own answer key v
   covers_upto w v upto c = record {
     versions = λ x there below. c.versions x there (below_upto x w v below upto);
     none = λ none. let d = c.none none in record {
@@ -182,30 +208,47 @@ module _ (h : List Record) (i j : ℕ) (kind : Kind) (bucket own : List ℕ) (an
     };
   }
 
-  -- a read of one key covers each version where it covers the newest
-  pub newest_covers : (w : Version) → IsNewestBelow (version_at h i bucket own) i (Some w) → covers h j bucket own answer own w ≡ covers_all h i j kind bucket own answer
+  -- it covers each where it covers the newest
+  pub newest_covers : (w : Version) → IsNewestBelow (version_at h i bucket key) i (Some w) → covers h j bucket own answer key w ≡ covers_key h i j bucket own answer key
   newest_covers w newest =
-      same_from_decides (covers h j bucket own answer own w) (covers_all h i j kind bucket own answer) (forward, backward) (covers_all-Decides h i j kind bucket own answer)
+      same_from_decides (covers h j bucket own answer key w) (covers_key h i j bucket own answer key) (forward, backward) covers_key-Decides
     where
-      at_own : (key : List ℕ) (v : Version) → own ≡ key → IsAcknowledged h i bucket key v → Covers h j bucket own answer own w → Covers h j bucket own answer key v
-      at_own key v same a c =
-          let mine : IsAcknowledged h i bucket own v = subst (λ k. IsAcknowledged h i bucket k v) (sym same) a in
-          subst (λ k. Covers h j bucket own answer k v) same
-          (covers_upto w v (newest.above w refl mine.place v (placed h i bucket own v mine) (version_there h i bucket own v mine)) c)
+      forward : covers h j bucket own answer key w ≡ true → CoversKey
+      forward t v a = covers_upto w v (newest.above w refl a.place v (placed h i bucket key v a) (version_there h i bucket key v a)) ((covers-Decides h bucket key own answer j w).0 t)
 
-      forward : covers h j bucket own answer own w ≡ true → CoversAll h i j kind bucket own answer
-      forward t key v named a = at_own key v (one_key kind no_list own key named) a ((covers-Decides h bucket own own answer j w).0 t)
-
-      backward : CoversAll h i j kind bucket own answer → covers h j bucket own answer own w ≡ true
-      backward all = let found = newest.some w refl in (covers-Decides h bucket own own answer j w).1 (all own w (own_key kind no_list own) (acknowledged_there h i bucket own found.0 w found.2))
+      backward : CoversKey → covers h j bucket own answer key w ≡ true
+      backward all = let found = newest.some w refl in (covers-Decides h bucket key own answer j w).1 (all w (acknowledged_there h i bucket key found.0 w found.2))
 
   -- and where there is none
-  pub none_covers : IsNewestBelow (version_at h i bucket own) i None → true ≡ covers_all h i j kind bucket own answer
-  none_covers newest =
-      same_from_decides true (covers_all h i j kind bucket own answer) (λ t key v named a. absurd (no key v (one_key kind no_list own key named) a), λ all. refl) (covers_all-Decides h i j kind bucket own answer)
+  pub none_covers : IsNewestBelow (version_at h i bucket key) i None → true ≡ covers_key h i j bucket own answer key
+  none_covers newest = same_from_decides true (covers_key h i j bucket own answer key) (λ t v a. absurd (no v a), λ all. refl) covers_key-Decides
     where
-      no : (key : List ℕ) (v : Version) → own ≡ key → IsAcknowledged h i bucket key v → ⊥
-      no key v same a =
-          let mine : IsAcknowledged h i bucket own v = subst (λ k. IsAcknowledged h i bucket k v) (sym same) a in
-          let none = newest.none refl mine.place (placed h i bucket own v mine) in
-          let absent : ◌≡◌ {A = Option Version} None (Some v) = sym none ∙ version_there h i bucket own v mine in cc
+      no : (v : Version) → IsAcknowledged h i bucket key v → ⊥
+      no v a =
+          let none = newest.none refl a.place (placed h i bucket key v a) in
+          let absent : ◌≡◌ {A = Option Version} None (Some v) = sym none ∙ version_there h i bucket key v a in cc
+
+module _ (h : List Record) (i j : ℕ) (kind : Kind) (bucket own : List ℕ) (answer : Answer) where
+  -- a read that is no list covers all that it owes where it covers its own key
+  pub own_covers : is_list kind ≡ false → covers_key h i j bucket own answer own ≡ covers_all h i j kind bucket own answer
+  own_covers no_list =
+      same_from_decides (covers_key h i j bucket own answer own) (covers_all h i j kind bucket own answer) (forward, backward) (covers_all-Decides h i j kind bucket own answer)
+    where
+      at_own : CoversKey h i j bucket own answer own → (key : List ℕ) (v : Version) → own ≡ key → IsAcknowledged h i bucket key v → Covers h j bucket own answer key v
+      at_own all key v same a = subst (λ k. Covers h j bucket own answer k v) same (all v (subst (λ k. IsAcknowledged h i bucket k v) (sym same) a))
+
+      forward : covers_key h i j bucket own answer own ≡ true → CoversAll h i j kind bucket own answer
+      forward t key v named a = at_own ((covers_key-Decides h i j bucket own answer own).0 t) key v (one_key kind no_list own key named) a
+
+      backward : CoversAll h i j kind bucket own answer → covers_key h i j bucket own answer own ≡ true
+      backward all = (covers_key-Decides h i j bucket own answer own).1 (λ w a. all own w (own_key kind no_list own) a)
+
+  -- where it doesn't cover a key that it names, it doesn't cover all
+  pub not_covers : (key : List ℕ) → names kind own key ≡ true → covers_key h i j bucket own answer key ≡ false → covers_all h i j kind bucket own answer ≡ false
+  not_covers key named e =
+      fails _ (covers_all-Decides h i j kind bucket own answer)
+      (λ all. let yes = (covers_key-Decides h i j bucket own answer key).1 (λ w a. all key w named a) in let no : false ≡ true = sym e ∙ yes in cc)
+
+  -- where it covers each key that it names, of which there is an acknowledged write, it covers all
+  pub all_covers : ((key : List ℕ) (v : Version) → names kind own key ≡ true → IsAcknowledged h i bucket key v → covers_key h i j bucket own answer key ≡ true) → covers_all h i j kind bucket own answer ≡ true
+  all_covers each = (covers_all-Decides h i j kind bucket own answer).1 (λ key v named a. (covers_key-Decides h i j bucket own answer key).0 (each key v named a) v a)

@@ -4,21 +4,22 @@ use Rattle.std.specs.List.{Contains, list_any, position, position_or_len, HoldsA
 use Rattle.std.specs.Bool.{Decides}
 use Rattle.std.specs.Ordering.{nat_cmp, MatchOrdering, ordering_then, ordering_index, is_lt}
 use Rattle.std.specs.Cmp.{IsTotalOrder, ranks, nat_cmp_total, on_total, then_total}
-use Rattle.std.specs.List.Sorted.{IsSorted, IsPermutation, IsPartitionPoint, IsNonDecreasingBy}
+use Rattle.std.specs.List.Sorted.{IsSorted, IsPermutation, IsPartitionPoint, IsPartitionedBy, IsNonDecreasingBy}
 use Rattle.std.specs.declared.cmp.Ordering.TheVariants.{Less, Equal, Greater}
-use Rattle.std.proofs.lemmas.Bool.{cases_lt, lt-ltb, le-ltb}
+use Rattle.std.proofs.lemmas.Bool.{cases_lt, lt-ltb, le-ltb, ltb-true}
 use Rattle.std.proofs.lemmas.Bool.Decides.{Decides-eqb, Decides-and, Decides-like}
 use Rattle.std.proofs.lemmas.List.{get_or-drop, length-drop}
 use Rattle.std.proofs.lemmas.List.Sums.{passes_at_first, fails_before_first}
-use Rattle.std.proofs.lemmas.List.Elements.{Contains-push, Contains-push_cases, Contains-append_left}
+use Rattle.std.proofs.lemmas.List.Elements.{Contains-get_or, Contains-push, Contains-push_cases, Contains-append_left}
 use Rattle.std.proofs.lemmas.List.Sorted.{Contains-permutation, IsPermutation-sym, sorted_far, ranks_by, searchable_from_sorted}
 use Rattle.std.proofs.lemmas.Option.{slice_get_within, slice_get-get_or, get_or_from_slice_get}
 use Rattle.history_model.specs.declared.record.Record.{Record}
 use Rattle.history_model.specs.declared.record.Answer.TheVariants.{None as Nothing}
 use Rattle.history_model.specs.declared.record.Record.TheVariants.{Finished}
 use Rattle.history_model.specs.Record.{request_of, next}
-use Rattle.world_history.specs.Index.{place_cmp, Speaks, IsOrder, place_of}
+use Rattle.world_history.specs.Index.{place_cmp, is_earlier, Speaks, IsOrder, place_of}
 use Rattle.world_history.proofs.Parts.{list_any-Decides}
+use Rattle.world_history.proofs.Sorted.{less_first, lt_is}
 
 -- ---- the order of entries
 
@@ -71,6 +72,23 @@ equal_is a b e = by_order (nat_cmp a.0 b.0) refl e
     by_order Less p g = let no : ◌≡◌ {A = Ordering} Less Equal = g in cc
     by_order Equal p g = let x : a.0 ≡ b.0 = ranked a.0 b.0 Equal p in let y : a.1 ≡ b.1 = ranked a.1 b.1 Equal g in (λ t. (x t, y t))
     by_order Greater p g = let no : ◌≡◌ {A = Ordering} Greater Equal = g in cc
+
+-- those before a place of a request come first
+pub earlier_parts : (order : List (ℕ × ℕ)) → IsSorted place_cmp order → (q n : ℕ) → IsPartitionedBy (is_earlier q n) order
+earlier_parts order sorted q n = less_first place_total order sorted (q, n)
+
+-- the entry of a request stands before a place if its own is less
+pub earlier_is : (q n m : ℕ) → is_earlier q n (q, m) ≡ nat_lt m n
+earlier_is q n m = ap (λ r. is_lt (ordering_then r (nat_cmp m n))) (cmp_same q) ∙ lt_is m n
+
+-- an entry between the first place of a request and another one is the request's, and of a place before that
+pub earlier_between : (q n : ℕ) (e : ℕ × ℕ) → is_earlier q 0 e ≡ false → is_earlier q n e ≡ true → (e.0 ≡ q) × (e.1 < n)
+earlier_between q n e from upto = by_order (nat_cmp e.0 q) refl
+  where
+    by_order : (r : Ordering) → nat_cmp e.0 q ≡ r → (e.0 ≡ q) × (e.1 < n)
+    by_order Less c = let no : true ≡ false = sym (ap (λ r. is_lt (ordering_then r (nat_cmp e.1 0))) c) ∙ from in cc
+    by_order Equal c = (ranked e.0 q Equal c, ltb-true e.1 n (sym (lt_is e.1 n) ∙ (sym (ap (λ r. is_lt (ordering_then r (nat_cmp e.1 n))) c) ∙ upto)))
+    by_order Greater c = let no : false ≡ true = sym (ap (λ r. is_lt (ordering_then r (nat_cmp e.1 n))) c) ∙ upto in cc
 
 -- ---- the next record of a request
 
@@ -261,6 +279,39 @@ module _ (h : List Record) (order : List (ℕ × ℕ)) (o : IsOrder h order) whe
                 | inl lt ↦ lt
                 | inr p ↦ let t : nat_eq e.0 q ≡ true = (Decides-eqb e.0 q).1 p.0 in let no : true ≡ false = sym t ∙ other in cc
               ]
+
+-- ---- the entries of a request before a place
+
+module _ (h : List Record) (order : List (ℕ × ℕ)) (o : IsOrder h order) (q n low high : ℕ) (le : high ≤ length order)
+    (at_low : IsPartitionPoint (λ e. is_earlier q 0 e ≡ true) (λ e. is_earlier q 0 e ≡ false) order low)
+    (at_high : IsPartitionPoint (λ e. is_earlier q n e ≡ true) (λ e. is_earlier q n e ≡ false) order high) where
+  -- an entry of the range is one of a place before n
+  pub range_before : (m : ℕ) (d : ℕ × ℕ) → low ≤ m → m < high → ((get_or order m d).1 < n) × ((get_or order m d).1 < length h)
+  range_before m d up lt =
+      let inside : m < length order = omega arith in
+      let zero_le : 0 ≤ m = omega arith in
+      let is = earlier_between q n (get_or order m d) (at_low.1 m d up inside) (at_high.0 m d zero_le lt) in
+      (is.1, speaks_within h (get_or order m d).0 (get_or order m d).1 (o.sound (get_or order m d) (Contains-get_or order m d inside)))
+
+  -- a record of the request before place n has its entry there
+  pub range_entry : (k : ℕ) → k < n → Speaks h k q → (m : ℕ) × (low ≤ m) × ((m < high) × ((m < length order) × (get_or order m (q, k) ≡ (q, k))))
+  range_entry k lt s =
+      let found = entry h order o k q s in
+      let early : is_earlier q n (get_or order found.0 (q, k)) ≡ true = ap (is_earlier q n) found.2 ∙ (earlier_is q n k ∙ lt-ltb k n lt) in
+      let late : is_earlier q 0 (get_or order found.0 (q, k)) ≡ false = ap (is_earlier q 0) found.2 ∙ (earlier_is q 0 k ∙ (let least : 0 ≤ k = omega arith in le-ltb k 0 least)) in
+      (found.0, above found.0 late, (below found.0 found.1 early, (found.1, found.2)))
+    where
+      above : (m : ℕ) → is_earlier q 0 (get_or order m (q, k)) ≡ false → low ≤ m
+      above m late = elim (cases_lt m low) as (λ t. low ≤ m) [
+        | inl less ↦ let zero_le : 0 ≤ m = omega arith in let no : true ≡ false = sym (at_low.0 m (q, k) zero_le less) ∙ late in cc
+        | inr up ↦ up
+      ]
+
+      below : (m : ℕ) → m < length order → is_earlier q n (get_or order m (q, k)) ≡ true → m < high
+      below m inside early = elim (cases_lt m high) as (λ t. m < high) [
+        | inl less ↦ less
+        | inr up ↦ let no : false ≡ true = sym (at_high.1 m (q, k) up inside) ∙ early in cc
+      ]
 
 -- ---- how they are made
 

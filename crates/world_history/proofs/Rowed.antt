@@ -1,12 +1,13 @@
 -- Which rows there are, and in which range those of a key stand.
-use Rattle.std.proofs.Common.{◌≡◌, ℕ, zero, suc, ◌+◌, ◌<◌, ◌≤◌, Bool, true, false, ◌&&◌, List, [], ◌∷◌, Option, Some, None, nat_eq, cond, option_map, ◌-◌, length, get_or, slice_get, inl, inr, refl, ap, sym, ◌∙◌, subst, arith}
+use Rattle.std.proofs.Common.{◌≡◌, ℕ, zero, suc, ◌+◌, ◌<◌, ◌≤◌, Bool, true, false, ◌&&◌, List, [], ◌∷◌, Option, Some, None, nat_eq, nat_lt, cond, option_map, ◌-◌, length, get_or, slice_get, inl, inr, refl, ap, sym, ◌∙◌, subst, arith}
 use Rattle.std.specs.List.{Contains, sum_by}
 use Rattle.std.specs.Bool.{Decides}
 use Rattle.std.specs.Option.{option_and_then}
-use Rattle.std.specs.List.Sorted.{IsPartitionPoint}
+use Rattle.std.specs.List.Sorted.{IsSorted, IsPartitionPoint}
+use Rattle.std.specs.Ordering.{is_lt}
 use Rattle.std.proofs.lemmas.Bool.{cases_lt, and_parts, lt-ltb, ltb-true}
 use Rattle.std.proofs.lemmas.Bool.Decides.{Decides-eqb, Decides-and, Decides-like}
-use Rattle.std.proofs.lemmas.Option.{option_and_then_some, slice_get_within}
+use Rattle.std.proofs.lemmas.Option.{option_and_then_some, slice_get_within, slice_get-get_or, get_or_from_slice_get}
 use Rattle.std.proofs.lemmas.List.{get_or_default}
 use Rattle.std.proofs.lemmas.Slice.Eq.{bytes_eq-Decides}
 use Rattle.std.proofs.lemmas.List.Sums.{sum_by-cons}
@@ -18,10 +19,11 @@ use Rattle.history_model.specs.Fresh.{IsAcknowledged}
 use Rattle.history_model.specs.Record.{is_write, same_bytes, answer_of, version_of, finish_at, next, finish, acknowledged}
 use Rattle.history_model.specs.Pairs.{sum_below}
 use Rattle.world_history.specs.declared.rows.Row.{Row}
-use Rattle.world_history.specs.Table.{ack_of, ack_at, sum_of, IsTable, is_before, is_of, one_if, version_in}
-use Rattle.world_history.specs.Checks.{version_at, IsNewestBelow}
-use Rattle.world_history.proofs.Newest.{acknowledged_there, version_there, placed}
-use Rattle.world_history.proofs.Table.{before_split}
+use Rattle.world_history.specs.Table.{row_cmp, ack_of, ack_at, sum_of, IsTable, IsTableOf, is_before, is_of, is_of_key, is_of_key_at, follows_key, one_if, version_in, version_of_row, row_version, AreNewest}
+use Rattle.world_history.specs.Checks.{version_at, newest_of, IsNewestBelow}
+use Rattle.world_history.proofs.Newest.{newest_not, newest_of-is, acknowledged_there, version_there, placed}
+use Rattle.world_history.proofs.Sorted.{not_less, less_back}
+use Rattle.world_history.proofs.Table.{row_total, before_split, own_before, between}
 
 -- ---- what a sum of ones tells
 
@@ -74,27 +76,27 @@ is_row-Decides r x =
     Decides-like (is_row r x) (λ e. λ i. record { bucket = e.0 i; key = e.1.0 i; place = e.1.1 i }) (λ e. (ap (λ y. y.bucket) e, (ap (λ y. y.key) e, ap (λ y. y.place) e)))
     (Decides-and _ _ (bytes_eq-Decides x.bucket r.bucket) (Decides-and _ _ (bytes_eq-Decides x.key r.key) (Decides-eqb x.place r.place)))
 
-module _ (h : List Record) (rows : List Row) (t : IsTable h rows) where
-  -- an acknowledged write has its row
-  pub row_in : (b : ℕ) (r : Row) → b < length h → ack_at h b ≡ Some r → Contains rows r
+module _ (row_at : ℕ → Option Row) (n : ℕ) (rows : List Row) (t : IsTableOf row_at n rows) where
+  -- the row of a place is there
+  pub row_in : (b : ℕ) (r : Row) → b < n → row_at b ≡ Some r → Contains rows r
   row_in b r lt e =
-      let here : sum_of (λ x. one_if (is_row r x)) (ack_at h b) ≡ 1 = ap (sum_of (λ x. one_if (is_row r x))) e ∙ ap one_if ((is_row-Decides r r).1 refl) in
-      let positive : 0 < sum_of (λ x. one_if (is_row r x)) (ack_at h b) = omega (arith, here) in
-      let all = some_below (λ k. sum_of (λ x. one_if (is_row r x)) (ack_at h k)) (length h) b lt positive in
+      let here : sum_of (λ x. one_if (is_row r x)) (row_at b) ≡ 1 = ap (sum_of (λ x. one_if (is_row r x))) e ∙ ap one_if ((is_row-Decides r r).1 refl) in
+      let positive : 0 < sum_of (λ x. one_if (is_row r x)) (row_at b) = omega (arith, here) in
+      let all = some_below (λ k. sum_of (λ x. one_if (is_row r x)) (row_at k)) n b lt positive in
       let told = t.told (λ x. one_if (is_row r x)) in
       let more : 0 < sum_by (λ x. one_if (is_row r x)) rows = omega (arith, told, all) in
       let found = some_passes (is_row r) rows more in
       subst (Contains rows) ((is_row-Decides r found.0).0 found.2) found.1
 
-  -- and a row is that of an acknowledged write
-  pub row_out : (m : ℕ) (d : Row) → m < length rows → (b : ℕ) × (b < length h) × (ack_at h b ≡ Some (get_or rows m d))
+  -- and a row is that of a place
+  pub row_out : (m : ℕ) (d : Row) → m < length rows → (b : ℕ) × (b < n) × (row_at b ≡ Some (get_or rows m d))
   row_out m d lt =
       let r = get_or rows m d in
       let more = passes_some (is_row r) rows m d lt ((is_row-Decides r r).1 refl) in
       let told = t.told (λ x. one_if (is_row r x)) in
-      let positive : 0 < sum_below (λ k. sum_of (λ x. one_if (is_row r x)) (ack_at h k)) (length h) = omega (arith, told, more) in
-      let found = below_some (λ k. sum_of (λ x. one_if (is_row r x)) (ack_at h k)) (length h) positive in
-      (found.0, found.1, by_case r (ack_at h found.0) refl found.2)
+      let positive : 0 < sum_below (λ k. sum_of (λ x. one_if (is_row r x)) (row_at k)) n = omega (arith, told, more) in
+      let found = below_some (λ k. sum_of (λ x. one_if (is_row r x)) (row_at k)) n positive in
+      (found.0, found.1, by_case r (row_at found.0) refl found.2)
     where
       by_case : (r : Row) (o : Option Row) {o' : Option Row} → o' ≡ o → 0 < sum_of (λ x. one_if (is_row r x)) o → o' ≡ Some r
       by_case r None e more = absurd (omega arith)
@@ -205,66 +207,125 @@ module _ (h : List Record) (i b : ℕ) (r : Row) (early : r.place < i) where
           by_case true c e = found (mapped (λ (a : ℕ × Version). record { bucket = bucket; key = key; place = a.0 }) (acknowledged h b q) r e) c
           by_case false c e = let no : ◌≡◌ {A = Option Row} None (Some r) = e in cc
 
-module _ (h : List Record) (rows : List Row) (t : IsTable h rows) (bucket key : List ℕ) (i low high : ℕ) (d : Row) (le : high ≤ length rows)
-    (at_low : IsPartitionPoint (λ r. is_before bucket key 0 r ≡ true) (λ r. is_before bucket key 0 r ≡ false) rows low)
+-- what gives a version in a record is there
+pub version_within : (h : List Record) (e : ℕ) (v : Version) → version_in h e ≡ Some v → e < length h
+version_within h e v is = by_case (slice_get h e) refl is
+  where
+    by_case : (o : Option Record) → slice_get h e ≡ o → option_and_then version_of (option_and_then answer_of o) ≡ Some v → e < length h
+    by_case None at told = let no : ◌≡◌ {A = Option Version} None (Some v) = told in cc
+    by_case (Some r) at told = slice_get_within h e r at
+
+-- a row stands where a record is
+pub row_within : (h : List Record) (b : ℕ) (r : Row) → ack_at h b ≡ Some r → r.place < length h
+row_within h b r is = let early : r.place < r.place + 1 = omega arith in let found = ack_back h (r.place + 1) b r early is in version_within h r.place found.0 found.2
+
+-- an acknowledged write has its row
+pub acknowledged_in : (h : List Record) (rows : List Row) → IsTable h rows → (i : ℕ) (bucket key : List ℕ) (v : Version) (a : IsAcknowledged h i bucket key v) → Contains rows (record { bucket = bucket; key = key; place = a.end })
+acknowledged_in h rows t i bucket key v a = row_in (ack_at h) (length h) rows t a.place _ (slice_get_within h a.place _ a.began.1) told
+  where
+    writes : is_write a.kind ≡ true
+    writes = a.writes
+
+    told : ack_at h a.place ≡ Some (record { bucket = bucket; key = key; place = a.end })
+    told = ap (ack_of h a.place) a.began.1 ∙ ((λ t. cond (writes t) (option_map (λ (x : ℕ × Version). record { bucket = bucket; key = key; place = x.0 }) (acknowledged h a.place a.request)) None) ∙ ap (option_map (λ (x : ℕ × Version). record { bucket = bucket; key = key; place = x.0 })) a.finished)
+
+-- ---- the rows of a key
+
+is_of_key-Decides : (bucket key : List ℕ) (r : Row) → Decides (is_of_key bucket key r) ((r.bucket ≡ bucket) × (r.key ≡ key))
+is_of_key-Decides bucket key r = Decides-and _ _ (bytes_eq-Decides r.bucket bucket) (bytes_eq-Decides r.key key)
+
+pub is_its_own : (r : Row) → is_of_key r.bucket r.key r ≡ true
+is_its_own r = (is_of_key-Decides r.bucket r.key r).1 (refl, refl)
+
+pub of_key : (bucket key : List ℕ) (r : Row) → is_of_key bucket key r ≡ true → (r.bucket ≡ bucket) × (r.key ≡ key)
+of_key bucket key r = (is_of_key-Decides bucket key r).0
+
+module _ (h : List Record) (rows : List Row) (sorted : IsSorted row_cmp rows) (bucket key : List ℕ) where
+  -- the row before place k is of the key, or no row before it is, where what stands at the end of them is of the key, or would be
+  pub none_of_key : (k : ℕ) (c : Row) → k ≤ length rows → c.bucket ≡ bucket → c.key ≡ key → ((d : Row) → 0 < k → is_lt (row_cmp c (get_or rows (k - 1) d)) ≡ false) →
+      follows_key rows k bucket key ≡ false → (m : ℕ) → m < k → row_version h rows bucket key m ≡ None
+  none_of_key k c le b e after follows m lt = by_row (slice_get rows m) refl
+    where
+      by_row : (o : Option Row) → slice_get rows m ≡ o → version_of_row h bucket key o ≡ None
+      by_row None at = refl
+      by_row (Some r) at = by_test (is_of_key bucket key r) refl
+        where
+          by_test : (t : Bool) → is_of_key bucket key r ≡ t → cond t (version_in h r.place) None ≡ None
+          by_test false t = refl
+          by_test true t =
+              let some : 0 < k = omega arith in
+              let last : k - 1 < length rows = omega arith in
+              let upto : m ≤ k - 1 = omega arith in
+              let mine = of_key bucket key r t in
+              let here : get_or rows m r ≡ r = get_or_from_slice_get rows m r r at in
+              let far : is_lt (row_cmp (get_or rows (k - 1) r) r) ≡ false = subst (λ x. is_lt (row_cmp (get_or rows (k - 1) r) x) ≡ false) here (not_less row_total rows sorted m (k - 1) r upto last) in
+              let same = between r (get_or rows (k - 1) r) c far (after r some) (b ∙ sym mine.0) (e ∙ sym mine.1) in
+              let yes : follows_key rows k bucket key ≡ true =
+              ap (λ x. nat_lt 0 k && is_of_key_at bucket key x) (slice_get-get_or rows (k - 1) r last)
+              ∙ (λ j. lt-ltb 0 k some j && (is_of_key-Decides bucket key (get_or rows (k - 1) r)).1 (same.0 ∙ mine.0, same.1 ∙ mine.1) j) in
+              let no : false ≡ true = sym follows ∙ yes in cc
+
+  -- where it is of the key, it is there
+  pub of_key_before : (k : ℕ) → follows_key rows k bucket key ≡ true → (r : Row) × (0 < k) × ((slice_get rows (k - 1) ≡ Some r) × ((r.bucket ≡ bucket) × (r.key ≡ key)))
+  of_key_before k e =
+      let parts = and_parts (nat_lt 0 k) _ e in by_row (slice_get rows (k - 1)) refl (ltb-true 0 k parts.0) parts.1
+    where
+      by_row : (o : Option Row) → slice_get rows (k - 1) ≡ o → 0 < k → is_of_key_at bucket key o ≡ true → (r : Row) × (0 < k) × ((slice_get rows (k - 1) ≡ Some r) × ((r.bucket ≡ bucket) × (r.key ≡ key)))
+      by_row None at some t = let no : false ≡ true = t in cc
+      by_row (Some r) at some t = (r, some, (at, of_key bucket key r t))
+
+module _ (h : List Record) (rows : List Row) (t : IsTable h rows) (bucket key : List ℕ) (i high : ℕ) (le : high ≤ length rows)
     (at_high : IsPartitionPoint (λ r. is_before bucket key i r ≡ true) (λ r. is_before bucket key i r ≡ false) rows high) where
-  -- the version of the row at a place of the range
-  abbrev pub row_version : ℕ → Option Version
-  row_version m = version_in h (get_or rows (low + m) d).place
-
   -- the row of this key at a place
-  abbrev row_at : ℕ → Row
-  row_at end = record { bucket = bucket; key = key; place = end }
+  abbrev row_of : ℕ → Row
+  row_of end = record { bucket = bucket; key = key; place = end }
 
-  -- an acknowledged write of the key before place i stands in the range
-  acknowledged_row : (v : Version) → IsAcknowledged h i bucket key v → (m : ℕ) × (m < high - low) × (row_version m ≡ Some v)
-  acknowledged_row v a =
-      (m.0 - low, (let x = inside.0 in let y = inside.1 in omega arith), ap (version_in h) (ap (λ r. r.place) (ap (λ n. get_or rows n d) back ∙ is)) ∙ version_of_acknowledged h a.place a.request a.end v a.finished)
+  -- an acknowledged write of the key before place i has its row before the point
+  acknowledged_row : (v : Version) → IsAcknowledged h i bucket key v → (m : ℕ) × (m < high) × (row_version h rows bucket key m ≡ Some v)
+  acknowledged_row v a = (m.0, below, ap (version_of_row h bucket key) there ∙ (ap (λ x. cond x (version_in h a.end) None) (is_its_own (row_of a.end)) ∙ version_of_acknowledged h a.place a.request a.end v a.finished))
     where
-      writes : is_write a.kind ≡ true
-      writes = a.writes
+      m : Contains rows (row_of a.end)
+      m = acknowledged_in h rows t i bucket key v a
 
-      told : ack_at h a.place ≡ Some (row_at a.end)
-      told = ap (ack_of h a.place) a.began.1 ∙ ((λ t. cond (writes t) (option_map (λ (x : ℕ × Version). record { bucket = bucket; key = key; place = x.0 }) (acknowledged h a.place a.request)) None) ∙ ap (option_map (λ (x : ℕ × Version). record { bucket = bucket; key = key; place = x.0 })) a.finished)
+      is : (d : Row) → get_or rows m.0 d ≡ row_of a.end
+      is d = get_or_default rows m.0 d (row_of a.end) m.1 ∙ m.2
 
-      m : Contains rows (row_at a.end)
-      m = row_in h rows t a.place (row_at a.end) (slice_get_within h a.place _ a.began.1) told
+      there : slice_get rows m.0 ≡ Some (row_of a.end)
+      there = slice_get-get_or rows m.0 (row_of a.end) m.1 ∙ ap Some m.2
 
-      is : get_or rows m.0 d ≡ row_at a.end
-      is = get_or_default rows m.0 d (row_at a.end) m.1 ∙ m.2
+      passes : is_before bucket key i (get_or rows m.0 (row_of a.end)) ≡ true
+      passes = ap (is_before bucket key i) (is (row_of a.end)) ∙ (own_before bucket key i (row_of a.end) refl refl ∙ lt-ltb a.end i a.before)
 
-      passes : is_of bucket key i (get_or rows m.0 d) ≡ true
-      passes = ap (is_of bucket key i) is ∙ (λ t. (bytes_eq-Decides bucket bucket).1 refl t && ((bytes_eq-Decides key key).1 refl t && lt-ltb a.end i a.before t))
+      below : m.0 < high
+      below = elim (cases_lt m.0 high) as (λ c. m.0 < high) [
+        | inl less ↦ less
+        | inr up ↦ let no : false ≡ true = sym (at_high.1 m.0 (row_of a.end) up m.1) ∙ passes in cc
+      ]
 
-      inside : (low ≤ m.0) × (m.0 < high)
-      inside = range_in rows bucket key i low high at_low at_high m.0 d m.1 passes
-
-      back : low + (m.0 - low) ≡ m.0
-      back = let x = inside.0 in omega arith
-
-  -- and what stands there is one
-  row_acknowledged : (m : ℕ) (v : Version) → m < high - low → row_version m ≡ Some v → IsAcknowledged h i bucket key v
-  row_acknowledged m v lt e = from (row_out h rows t (low + m) d inside)
+  -- and a version before the point is that of one
+  row_acknowledged : (m : ℕ) (v : Version) → m < high → row_version h rows bucket key m ≡ Some v → IsAcknowledged h i bucket key v
+  row_acknowledged m v lt e = by_row (slice_get rows m) refl e
     where
-      inside : low + m < length rows
-      inside = omega arith
+      by_row : (o : Option Row) → slice_get rows m ≡ o → version_of_row h bucket key o ≡ Some v → IsAcknowledged h i bucket key v
+      by_row None at e = let no : ◌≡◌ {A = Option Version} None (Some v) = e in cc
+      by_row (Some r) at e = by_test (is_of_key bucket key r) refl e
+        where
+          by_test : (c : Bool) → is_of_key bucket key r ≡ c → cond c (version_in h r.place) None ≡ Some v → IsAcknowledged h i bucket key v
+          by_test false c e = let no : ◌≡◌ {A = Option Version} None (Some v) = e in cc
+          by_test true c e =
+              let mine = of_key bucket key r c in
+              let here : get_or rows m r ≡ r = get_or_from_slice_get rows m r r at in
+              let first : 0 ≤ m = omega arith in
+              let inside : m < length rows = omega arith in
+              let before : is_before bucket key i r ≡ true = subst (λ x. is_before bucket key i x ≡ true) here (at_high.0 m r first lt) in
+              let early : r.place < i = ltb-true r.place i (sym (own_before bucket key i r mine.0 mine.1) ∙ before) in
+              let told = row_out (ack_at h) (length h) rows t m r inside in
+              let found = ack_back h i told.0 r early (told.2 ∙ ap Some here) in
+              let same : ◌≡◌ {A = Option Version} (Some found.0) (Some v) = sym found.2 ∙ e in
+              let version : found.0 ≡ v = cc in
+              subst (λ x. IsAcknowledged h i bucket key x) version (subst (λ x. IsAcknowledged h i bucket x found.0) mine.1 (subst (λ x. IsAcknowledged h i x r.key found.0) mine.0 found.1))
 
-      passes : is_of bucket key i (get_or rows (low + m) d) ≡ true
-      passes = let above : low ≤ low + m = omega arith in let below : low + m < high = omega arith in in_range rows bucket key i low high at_low at_high (low + m) d above below inside
-
-      from : (b : ℕ) × (b < length h) × (ack_at h b ≡ Some (get_or rows (low + m) d)) → IsAcknowledged h i bucket key v
-      from (b, lt, is) =
-          let parts = and_parts (same_bytes (get_or rows (low + m) d).bucket bucket) _ passes in
-          let more = and_parts (same_bytes (get_or rows (low + m) d).key key) _ parts.1 in
-          let eb = (bytes_eq-Decides (get_or rows (low + m) d).bucket bucket).0 parts.0 in
-          let ek = (bytes_eq-Decides (get_or rows (low + m) d).key key).0 more.0 in
-          let early = ltb-true _ _ more.1 in
-          let found = ack_back h i b (get_or rows (low + m) d) early is in
-          let same : ◌≡◌ {A = Option Version} (Some found.0) (Some v) = sym found.2 ∙ e in
-          let version : found.0 ≡ v = cc in
-          subst (λ x. IsAcknowledged h i bucket key x) version (subst (λ x. IsAcknowledged h i bucket x found.0) ek (subst (λ x. IsAcknowledged h i x (get_or rows (low + m) d).key found.0) eb found.1))
-
-  pub newest_of_rows : (r : Option Version) → IsNewestBelow row_version (high - low) r → IsNewestBelow (version_at h i bucket key) i r
+  pub newest_of_rows : (r : Option Version) → IsNewestBelow (row_version h rows bucket key) high r → IsNewestBelow (version_at h i bucket key) i r
   newest_of_rows r newest = record {
     none = λ e k lt. silent e k (version_at h i bucket key k) refl;
     some = λ w e. (let found = newest.some w e in let a = row_acknowledged found.0 w found.1 found.2 in (a.place, placed h i bucket key w a, version_there h i bucket key w a));
@@ -276,3 +337,16 @@ module _ (h : List Record) (rows : List Row) (t : IsTable h rows) (bucket key : 
       silent e k (Some v) at =
           let m = acknowledged_row v (acknowledged_there h i bucket key k v at) in
           let no : ◌≡◌ {A = Option Version} None (Some v) = sym (newest.none e m.0 m.1) ∙ m.2 in cc
+
+  -- the newest of the key is that of the row before the point, where it is of the key, and none else
+  pub newest_none : follows_key rows high bucket key ≡ false → IsNewestBelow (version_at h i bucket key) i None
+  newest_none follows =
+      newest_of_rows None (newest_not _ high (none_of_key h rows t.sorted bucket key high (row_of i) le refl refl
+      (λ d some. let first : 0 ≤ high - 1 = omega arith in let lt : high - 1 < high = omega arith in less_back row_total (get_or rows (high - 1) d) (row_of i) (at_high.0 (high - 1) d first lt)) follows))
+
+  pub newest_some : (all : List (Option Version)) → AreNewest h rows all → follows_key rows high bucket key ≡ true → (d : Option Version) → IsNewestBelow (version_at h i bucket key) i (get_or all (high - 1) d)
+  newest_some all told follows d =
+      let (r, some, (at, same)) = of_key_before h rows t.sorted bucket key high follows in
+      let next : high - 1 + 1 ≡ high = omega (arith, some) in
+      let is : get_or all (high - 1) d ≡ newest_of (row_version h rows bucket key) high = told.newest (high - 1) r d at ∙ (λ t. newest_of (row_version h rows (same.0 t) (same.1 t)) (next t)) in
+      newest_of_rows (get_or all (high - 1) d) (subst (IsNewestBelow (row_version h rows bucket key) high) (sym is) (newest_of-is (row_version h rows bucket key) high))

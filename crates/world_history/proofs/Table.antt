@@ -1,20 +1,21 @@
 -- How many rows of a key stand before a place.
-use Rattle.std.proofs.Common.{◌≡◌, ℕ, zero, suc, ◌+◌, ◌-◌, ◌<◌, ◌≤◌, Bool, true, false, ◌&&◌, List, [], ◌∷◌, nat_eq, nat_lt, length, get_or, take, Ordering, refl, ap, sym, ◌∙◌, subst, arith, eq-eqb, ne_eqb}
+use Rattle.std.proofs.Common.{◌≡◌, ℕ, zero, suc, ◌+◌, ◌-◌, ◌<◌, ◌≤◌, Bool, true, false, ◌&&◌, Option, List, [], ◌∷◌, nat_eq, nat_lt, length, get_or, take, Ordering, refl, ap, sym, ◌∙◌, subst, arith, eq-eqb, ne_eqb}
 use Rattle.std.specs.List.{sum_by}
-use Rattle.std.specs.Ordering.{nat_cmp, ordering_then, ordering_index, is_lt, is_eq, eq_by_cmp, MatchOrdering}
-use Rattle.std.specs.Cmp.{IsTotalOrder, ranks, nat_cmp_total, on_total, then_total}
+use Rattle.std.specs.Ordering.{nat_cmp, ordering_then, is_lt, is_eq, eq_by_cmp, MatchOrdering}
+use Rattle.std.specs.Cmp.{IsTotalOrder, ranks, nat_cmp_total, on_total, then_total, tied_itself}
 use Rattle.std.specs.Cmp.Lexicographic.{slice_cmp, lists_ties, nat_list_cmp_total}
 use Rattle.std.specs.List.Sorted.{IsSorted, IsPermutation, IsPartitionPoint, IsPartitionedBy}
 use Rattle.std.specs.declared.cmp.Ordering.TheVariants.{Less, Equal, Greater}
-use Rattle.std.proofs.lemmas.Bool.{lt-ltb, le-ltb}
 use Rattle.std.proofs.lemmas.List.{take_all}
 use Rattle.std.proofs.lemmas.List.Sums.{sum_by_more, sum_by-cons}
-use Rattle.std.proofs.lemmas.List.Sorted.{searchable_from_sorted, sum_by-IsPermutation}
-use Rattle.history_model.specs.declared.record.Record.{Record}
+use Rattle.std.proofs.lemmas.List.Sorted.{sum_by-IsPermutation}
+use Rattle.std.proofs.lemmas.Slice.Eq.{bytes_eq-Decides}
+use Rattle.crdt_core.specs.LexLaws.{turned}
 use Rattle.history_model.specs.Record.{same_bytes}
 use Rattle.history_model.specs.Pairs.{sum_below}
 use Rattle.world_history.specs.declared.rows.Row.{Row}
-use Rattle.world_history.specs.Table.{row_cmp, ack_at, sum_of, IsTable, is_before, is_of, one_if}
+use Rattle.world_history.specs.Table.{row_cmp, sum_of, IsTableOf, is_before, is_of, one_if}
+use Rattle.world_history.proofs.Sorted.{less_first, ties, first_not, second_not, lt_is}
 
 pub row_total : IsTotalOrder row_cmp
 row_total =
@@ -84,21 +85,13 @@ three Equal Greater before first e = refl
 three Equal Equal before first e = let none : one_if (is_lt first) ≡ 0 = ap one_if e in omega (arith, none)
 
 -- none stands before place 0
-none_before : (m : ℕ) → is_lt (nat_cmp m 0) ≡ false
+pub none_before : (m : ℕ) → is_lt (nat_cmp m 0) ≡ false
 none_before m = by_order (nat_cmp m 0) refl
   where
     by_order : (r : Ordering) → nat_cmp m 0 ≡ r → is_lt r ≡ false
     by_order Less e = let less : m < 0 = subst (λ s. MatchOrdering s (m < 0) (m ≡ 0) (0 < m)) e (ranks m 0) in absurd (omega arith)
     by_order Equal e = refl
     by_order Greater e = refl
-
-lt_is : (m t : ℕ) → is_lt (nat_cmp m t) ≡ nat_lt m t
-lt_is m t = by_order (nat_cmp m t) refl
-  where
-    by_order : (r : Ordering) → nat_cmp m t ≡ r → is_lt r ≡ nat_lt m t
-    by_order Less e = sym (lt-ltb m t (subst (λ s. MatchOrdering s (m < t) (m ≡ t) (t < m)) e (ranks m t)))
-    by_order Equal e = let same : m ≡ t = subst (λ s. MatchOrdering s (m < t) (m ≡ t) (t < m)) e (ranks m t) in let le : t ≤ m = omega arith in sym (le-ltb m t le)
-    by_order Greater e = let more : t < m = subst (λ s. MatchOrdering s (m < t) (m ≡ t) (t < m)) e (ranks m t) in let le : t ≤ m = omega arith in sym (le-ltb m t le)
 
 -- those before place t are those before place 0 and those of the key before place t
 pub before_split : (bucket key : List ℕ) (t : ℕ) (r : Row) → one_if (is_before bucket key t r) ≡ one_if (is_before bucket key 0 r) + one_if (is_of bucket key t r)
@@ -111,24 +104,33 @@ before_split bucket key t r =
 
 -- the rows that stand before a place of a key come first
 pub before_parts : (rows : List Row) → IsSorted row_cmp rows → (bucket key : List ℕ) (t : ℕ) → IsPartitionedBy (is_before bucket key t) rows
-before_parts rows sorted bucket key t i j d le lt at =
-    lower (row_cmp (get_or rows i d) x) refl
+before_parts rows sorted bucket key t = less_first row_total rows sorted (record { bucket = bucket; key = key; place = t })
+
+-- a row stands before a place of its own key if its place is less
+pub own_before : (bucket key : List ℕ) (t : ℕ) (r : Row) → r.bucket ≡ bucket → r.key ≡ key → is_before bucket key t r ≡ nat_lt r.place t
+own_before bucket key t r b k =
+    (λ i. is_lt (ordering_then (slice_cmp nat_cmp (b i) bucket) (ordering_then (slice_cmp nat_cmp (k i) key) (nat_cmp r.place t))))
+    ∙ ((λ i. is_lt (ordering_then (tied_itself nat_list_cmp_total bucket i) (ordering_then (tied_itself nat_list_cmp_total key i) (nat_cmp r.place t))))
+    ∙ lt_is r.place t)
+
+-- strings of bytes that tie are one
+pub tied_bytes : (xs ys : List ℕ) → slice_cmp nat_cmp xs ys ≡ Equal → xs ≡ ys
+tied_bytes xs ys e = (bytes_eq-Decides xs ys).0 (lists_ties nat_cmp nat_ties xs ys ∙ ap is_eq e)
+
+-- what stands between two rows of a key is of that key
+pub between : (a x c : Row) → is_lt (row_cmp x a) ≡ false → is_lt (row_cmp c x) ≡ false → c.bucket ≡ a.bucket → c.key ≡ a.key → (x.bucket ≡ a.bucket) × (x.key ≡ a.key)
+between a x c xa cx b k = (tied_bytes x.bucket a.bucket bucket_ties, tied_bytes x.key a.key key_ties)
   where
-    x : Row
-    x = record { bucket = bucket; key = key; place = t }
+    bucket_ties : slice_cmp nat_cmp x.bucket a.bucket ≡ Equal
+    bucket_ties = ties nat_list_cmp_total x.bucket a.bucket (first_not _ _ xa) (subst (λ y. is_lt (slice_cmp nat_cmp y x.bucket) ≡ false) b (first_not _ _ cx))
 
-    rises : ordering_index (row_cmp (get_or rows i d) x) ≤ ordering_index (row_cmp (get_or rows j d) x)
-    rises = searchable_from_sorted row_total (λ r. r) rows x sorted i j d le lt
+    bucket_turned : slice_cmp nat_cmp c.bucket x.bucket ≡ Equal
+    bucket_turned = subst (λ y. slice_cmp nat_cmp y x.bucket ≡ Equal) (sym b) (turned nat_list_cmp_total x.bucket a.bucket Equal bucket_ties)
 
-    least : (o : Ordering) → is_lt o ≡ true → ordering_index o ≡ 0
-    least Less e = refl
-    least Equal e = let no : false ≡ true = e in cc
-    least Greater e = let no : false ≡ true = e in cc
-
-    lower : (o : Ordering) → row_cmp (get_or rows i d) x ≡ o → is_lt o ≡ true
-    lower Less e = refl
-    lower Equal e = let none = least (row_cmp (get_or rows j d) x) at in let one : ordering_index (row_cmp (get_or rows i d) x) ≡ 1 = ap ordering_index e in let up = rises in absurd (omega (arith, none, one, up))
-    lower Greater e = let none = least (row_cmp (get_or rows j d) x) at in let two : ordering_index (row_cmp (get_or rows i d) x) ≡ 2 = ap ordering_index e in let up = rises in absurd (omega (arith, none, two, up))
+    key_ties : slice_cmp nat_cmp x.key a.key ≡ Equal
+    key_ties =
+        ties nat_list_cmp_total x.key a.key (first_not _ _ (second_not _ _ xa bucket_ties))
+        (subst (λ y. is_lt (slice_cmp nat_cmp y x.key) ≡ false) k (first_not _ _ (second_not _ _ cx bucket_turned)))
 
 -- how many rows of the key stand before place t: those before it less those before place 0
 pub counted : (rows : List Row) (bucket key : List ℕ) (t : ℕ) → sum_by (λ r. one_if (is_before bucket key t r)) rows ≡ sum_by (λ r. one_if (is_before bucket key 0 r)) rows + sum_by (λ r. one_if (is_of bucket key t r)) rows
@@ -136,9 +138,9 @@ counted rows bucket key t = sum_by_both _ _ _ (before_split bucket key t) rows
 
 -- ---- how the rows are made
 
--- the rows of the acknowledged writes that began below place n
-abbrev pub AddedUp : List Record → ℕ → List Row → Type 0
-AddedUp h n rows = (f : Row → ℕ) → sum_by f rows ≡ sum_below (λ b. sum_of f (ack_at h b)) n
+-- the rows of the places below n
+abbrev pub AddedUp : (ℕ → Option Row) → ℕ → List Row → Type 0
+AddedUp row_at n rows = (f : Row → ℕ) → sum_by f rows ≡ sum_below (λ b. sum_of f (row_at b)) n
 
-pub added_sorted : (h : List Record) (xs ys : List Row) → AddedUp h (length h) xs → IsPermutation xs ys → IsSorted row_cmp ys → IsTable h ys
-added_sorted h xs ys t shuffled sorted = record { sorted = sorted; told = λ f. sum_by-IsPermutation f xs ys shuffled ∙ t f }
+pub added_sorted : (row_at : ℕ → Option Row) (n : ℕ) (xs ys : List Row) → AddedUp row_at n xs → IsPermutation xs ys → IsSorted row_cmp ys → IsTableOf row_at n ys
+added_sorted row_at n xs ys t shuffled sorted = record { sorted = sorted; told = λ f. sum_by-IsPermutation f xs ys shuffled ∙ t f }

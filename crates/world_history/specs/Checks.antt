@@ -95,6 +95,11 @@ newer_of None b = b
 newer_of (Some a) None = Some a
 newer_of (Some a) (Some b) = Some (if is_below a b then b else a)
 
+-- the newest of the versions that the numbers below n have, if they have any
+abbrev pub newest_of : (ℕ → Option Version) → ℕ → Option Version
+newest_of p zero = None
+newest_of p (suc n) = newer_of (newest_of p n) (p n)
+
 -- of the versions at the numbers below n, if there are any, none is newer
 pub record IsNewestBelow (p : ℕ → Option Version) (n : ℕ) (newest : Option Version) : Type 0 where
   pub none : newest ≡ None → (k : ℕ) → k < n → p k ≡ None
@@ -104,6 +109,11 @@ pub record IsNewestBelow (p : ℕ → Option Version) (n : ℕ) (newest : Option
 -- the answer covers each write that was acknowledged before place i
 abbrev pub covers_all : List Record → ℕ → ℕ → Kind → List ℕ → List ℕ → Answer → Bool
 covers_all h i j kind bucket own answer = all_below (covers_at h i j kind bucket own answer) i
+
+-- the answer covers each write of the key that was acknowledged before place i
+abbrev pub covers_key : List Record → ℕ → ℕ → List ℕ → List ℕ → Answer → List ℕ → Bool
+covers_key h i j bucket own answer key =
+    all_below (λ place. is_none_or (covers h j bucket own answer key) (version_at h i bucket key place)) i
 
 -- e is a key and a version
 abbrev pub is_written_if_named : List Record → ℕ → Kind → List ℕ → List ℕ → List ℕ × Version → Bool

@@ -6,18 +6,18 @@ ghost use Rattle.stale_model.specs.Stale.{IsFirstStale};
 ghost use Rattle.history_model.specs.Fresh.{Fresh};
 
 use crate::finish::finish;
+use crate::past::Past;
 use crate::read::Read;
-use crate::rows::Table;
 use crdt_core::Memory;
 use history_model::{History, Record};
 use std::alloc::Global;
 
 // Where the read that began at this place, if one did, finished, with its request's number, unless it is fresh.
-fn stale_at(table: &Table<'_>, i: usize) -> Option<(usize, u64)>
-    requires { i < length table.now.index.records.now }
-    ensures { result ≡ stale_at table.now.index.records.now i }
+fn stale_at(past: &Past<'_>, i: usize) -> Option<(usize, u64)>
+    requires { i < length past.now.table.index.records.now }
+    ensures { result ≡ stale_at past.now.table.index.records.now i }
 {
-    match &table.index.records[i] {
+    match &past.table.index.records[i] {
         Record::Began {
             request,
             kind,
@@ -25,7 +25,7 @@ fn stale_at(table: &Table<'_>, i: usize) -> Option<(usize, u64)>
             key,
             ..
         } if kind.is_read() => {
-            let (finished, answer) = finish(&table.index, i, *request)?;
+            let (finished, answer) = finish(&past.table.index, i, *request)?;
             let read = Read {
                 kind: *kind,
                 bucket,
@@ -34,7 +34,7 @@ fn stale_at(table: &Table<'_>, i: usize) -> Option<(usize, u64)>
                 finished,
                 answer,
             };
-            if read.covers_all(table) && read.shows_written(&table.index) {
+            if read.covers_all(past) && read.shows_written(&past.table.index) {
                 None
             } else {
                 Some((finished, *request))
@@ -56,12 +56,12 @@ fn earlier(a: Option<(usize, u64)>, b: Option<(usize, u64)>) -> Option<(usize, u
 }
 
 // The first place at which a read finished that isn't fresh, with its request's number.
-fn first_of(table: &Table<'_>) -> Option<(usize, u64)>
-    ensures { IsFirstBelow (stale_at table.now.index.records.now) (length table.now.index.records.now) result }
+fn first_of(past: &Past<'_>) -> Option<(usize, u64)>
+    ensures { IsFirstBelow (stale_at past.now.table.index.records.now) (length past.now.table.index.records.now) result }
 {
     let mut first = None;
-    for i in 0..table.index.records.len() {
-        first = earlier(first, stale_at(table, i));
+    for i in 0..past.table.index.records.len() {
+        first = earlier(first, stale_at(past, i));
     }
     first
 }
@@ -72,8 +72,8 @@ pub fn first_stale(alloc: Global, h: &History) -> Result<Option<u64>, Memory>
     ensures first { IfOk result (λ stale. IfSome stale (IsFirstStale h.now.0)) }
     ensures want { OnlyWant result }
 {
-    let table = Table::new(alloc, h.0.as_slice())?;
-    match first_of(&table) {
+    let past = Past::new(alloc, h.0.as_slice())?;
+    match first_of(&past) {
         Some((_, request)) => Ok(Some(request)),
         None => Ok(None),
     }

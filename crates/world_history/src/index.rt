@@ -1,11 +1,13 @@
 //! What is looked up in a history.
-ghost use Rattle.std.specs.Prelude.{◌≡◌, ◌<◌, ◌^◌, length, IfOk};
+ghost use Rattle.std.specs.Prelude.{◌≡◌, ◌<◌, ◌≤◌, ◌^◌, length, IsSorted, IfOk, true, false};
+ghost use Rattle.std.specs.List.Sorted.{IsPartitionPoint};
 ghost use Rattle.crdt_core.specs.Outcomes.{OnlyWant};
-ghost use Rattle.world_history.specs.Index.{IsOrder};
+ghost use Rattle.world_history.specs.Index.{IsOrder, place_cmp, is_earlier};
 
 use crdt_core::Memory;
 use history_model::Record;
 use std::alloc::Global;
+use std::cmp::Ordering;
 
 /// The records, and where each request is spoken of.
 #[derive(Drop)]
@@ -41,4 +43,28 @@ impl<'a> Index<'a> {
         let order = order(alloc, records)?;
         Ok(Index { records, order })
     }
+}
+
+// Whether an entry stands before those of this request at this place or later.
+fn is_earlier(entry: &(u64, usize), request: u64, place: usize) -> bool
+    ensures { result ≡ is_earlier request place entry.now }
+{
+    match entry.0.cmp(&request) {
+        Ordering::Less => true,
+        Ordering::Greater => false,
+        Ordering::Equal => entry.1 < place,
+    }
+}
+
+/// How many entries stand before those of this request at this place or later.
+pub fn entries_before(order: &[(u64, usize)], request: u64, place: usize) -> usize
+    requires { IsSorted place_cmp order.now }
+    ensures bound { result ≤ length order.now }
+    ensures point { IsPartitionPoint (λ e. is_earlier request place e ≡ true) (λ e. is_earlier request place e ≡ false) order.now result }
+{
+    order.partition_point(
+        |entry: &(u64, usize)| -> bool
+            ensures { result ≡ is_earlier request place entry.now }
+        { is_earlier(entry, request, place) },
+    )
 }

@@ -14,10 +14,13 @@
 //! bucket and key, for each acknowledged write.
 #![tactic(auto)]
 
+mod deletes;
 mod finish;
 mod freshness;
 mod index;
+mod latest;
 mod pair_count;
+mod past;
 mod read;
 mod rows;
 

@@ -2,66 +2,38 @@
 ghost use Rattle.std.specs.Prelude.{◌≡◌, ◌<◌, ◌-◌, ◌^◌, ◌≤◌, length, min, IfOk};
 ghost use Rattle.crdt_core.specs.Outcomes.{OnlyWant};
 ghost use Rattle.history_model.specs.Pairs.{is_owed, count_below, pair_count};
+ghost use Rattle.std.specs.List.{sum_by};
 ghost use Rattle.world_history.specs.Checks.{owed};
+ghost use Rattle.world_history.specs.Table.{one_if, is_listed_before};
 
-use crate::finish::{acknowledged, finish};
-use crate::index::Index;
-use crate::read::names;
-use crate::rows::{Table, count};
+use crate::finish::finish;
+use crate::rows::{Table, before, count, is_listed_at};
 use crdt_core::{Bytes, Memory};
 use history_model::{History, Kind, Record};
 use std::alloc::Global;
 
-// Whether a write of a key that the read names began at this place, and was acknowledged before place i.
-fn is_owed(
-    index: &Index<'_>,
-    i: usize,
-    kind: Kind,
-    bucket: &Bytes,
-    own: &Bytes,
-    place: usize,
-) -> bool
-    requires { place < length index.now.records.now }
-    ensures { result ≡ is_owed index.now.records.now i kind bucket.now own.now place }
+// How many writes of keys with a prefix were acknowledged before place i, key by key.
+fn writes_under(table: &Table<'_>, i: usize, bucket: &Bytes, prefix: &Bytes) -> usize
+    requires { i ≤ length table.now.index.records.now }
+    ensures { result ≡ sum_by (λ r. one_if (is_listed_before bucket.now prefix.now i r)) table.now.rows.items }
 {
-    match &index.records[place] {
-        Record::Began {
-            request,
-            kind: place_kind,
-            bucket: place_bucket,
-            key,
-            ..
-        } if place_kind.is_write() && names(kind, own, key) && place_bucket == bucket => {
-            match acknowledged(index, place, *request) {
-                Some((end, _)) => end < i,
-                None => false,
-            }
-        }
-        _ => false,
-    }
-}
-
-// How many writes of the keys that a read names were acknowledged before place i, by a walk over the records.
-fn owed_to_each(index: &Index<'_>, i: usize, kind: Kind, bucket: &Bytes, own: &Bytes) -> usize
-    requires { i ≤ length index.now.records.now }
-    ensures { result ≡ count_below (is_owed index.now.records.now i kind bucket.now own.now) i }
-{
+    let rows = table.rows.as_slice();
     let mut count = 0;
-    for place in 0..i {
-        if is_owed(index, i, kind, bucket, own, place) {
-            count += 1;
-        }
+    let mut k = before(rows, bucket, prefix, 0);
+    while is_listed_at(rows, k, bucket, prefix) {
+        count += before(rows, bucket, &rows[k].key, i).saturating_sub(k);
+        k = table.key_end(k);
     }
     count
 }
 
-// The same. Those of one key are its rows before the place.
+// How many writes of keys that a read names were acknowledged before place i.
 fn owed_to(table: &Table<'_>, i: usize, kind: Kind, bucket: &Bytes, own: &Bytes) -> usize
     requires { i ≤ length table.now.index.records.now }
     ensures { result ≡ count_below (is_owed table.now.index.records.now i kind bucket.now own.now) i }
 {
     if kind.is_list() {
-        return owed_to_each(&table.index, i, kind, bucket, own);
+        return writes_under(table, i, bucket, own);
     }
     count(table.rows.as_slice(), bucket, own, i)
 }

@@ -1,12 +1,13 @@
 //! A finished read, and what it owes.
-ghost use Rattle.std.specs.Prelude.{◌≡◌, ◌<◌, ◌≤◌, length};
-ghost use Rattle.history_model.specs.Record.{names};
-ghost use Rattle.world_history.specs.Checks.{deletes_at, is_deleted, writes_at, is_written, shows, shows_below, covers, covers_at, covers_all, is_written_if_named, shows_written};
+ghost use Rattle.std.specs.Prelude.{◌≡◌, ◌<◌, ◌≤◌, length, true};
+ghost use Rattle.history_model.specs.Record.{names, is_list};
+ghost use Rattle.world_history.specs.Checks.{writes_at, is_written, shows, shows_below, covers, covers_key, covers_all, is_written_if_named, shows_written};
 ghost use Rattle.std.specs.List.{list_all};
 
 use crate::finish::acknowledged;
-use crate::index::Index;
-use crate::rows::{Table, newest_before};
+use crate::index::{Index, entries_before};
+use crate::past::Past;
+use crate::rows::{before, is_listed_at};
 use crdt_core::Bytes;
 use crdt_rows::Version;
 use history_model::{Answer, Kind, Record};
@@ -31,41 +32,6 @@ pub fn names(kind: Kind, own: &Bytes, key: &Bytes) -> bool
         Kind::List => key.as_slice().starts_with(own.as_slice()),
         _ => own == key,
     }
-}
-
-// Whether a delete of the key began at this place which wasn't acknowledged with a version below w.
-fn deletes_at(index: &Index<'_>, bucket: &Bytes, key: &Bytes, w: Version, place: usize) -> bool
-    requires { place < length index.now.records.now }
-    ensures { result ≡ deletes_at index.now.records.now bucket.now key.now w place }
-{
-    match &index.records[place] {
-        Record::Began {
-            request,
-            kind,
-            bucket: place_bucket,
-            key: place_key,
-            ..
-        } if kind.is_delete() && place_key == key && place_bucket == bucket => {
-            match acknowledged(index, place, *request) {
-                Some((_, version)) => !(version < w),
-                None => true,
-            }
-        }
-        _ => false,
-    }
-}
-
-// Whether that is so at some place before place j.
-fn is_deleted(index: &Index<'_>, j: usize, bucket: &Bytes, key: &Bytes, w: Version) -> bool
-    requires { j ≤ length index.now.records.now }
-    ensures { result ≡ is_deleted index.now.records.now j bucket.now key.now w }
-{
-    for place in (0..j).rev() {
-        if deletes_at(index, bucket, key, w, place) {
-            return true;
-        }
-    }
-    false
 }
 
 // Whether a put or copy of the key with the number of v began at this place, which wasn't acknowledged with
@@ -96,8 +62,11 @@ fn is_written(index: &Index<'_>, j: usize, bucket: &Bytes, key: &Bytes, v: Versi
     requires { j ≤ length index.now.records.now }
     ensures { result ≡ is_written index.now.records.now j bucket.now key.now v }
 {
-    for place in (0..j).rev() {
-        if writes_at(index, bucket, key, v, place) {
+    let order = index.order.as_slice();
+    let low = entries_before(order, v.id, 0);
+    let high = entries_before(order, v.id, j);
+    for k in low..high {
+        if writes_at(index, bucket, key, v, order[k].1) {
             return true;
         }
     }
@@ -131,66 +100,55 @@ fn shows_below(own: &Bytes, answer: &Answer, key: &Bytes, w: Version) -> bool
 
 impl Read<'_> {
     // Whether what it shows for the key covers w.
-    fn covers(&self, index: &Index<'_>, key: &Bytes, w: Version) -> bool
-        requires { self.now.finished ≤ length index.now.records.now }
-        ensures { result ≡ covers index.now.records.now self.now.finished self.now.bucket.now self.now.key.now self.now.answer.now key.now w }
+    fn covers(&self, past: &Past<'_>, key: &Bytes, w: Version) -> bool
+        requires { self.now.finished ≤ length past.now.table.index.records.now }
+        ensures { result ≡ covers past.now.table.index.records.now self.now.finished self.now.bucket.now self.now.key.now self.now.answer.now key.now w }
     {
         !shows_below(self.key, self.answer, key, w)
             && (shows(self.key, self.answer, key)
-                || is_deleted(index, self.finished, self.bucket, key, w))
+                || past.is_deleted(self.finished, self.bucket, key, w))
     }
 
-    // Whether it covers the version, if any, with which a write of a key that it names began at this place and
-    // was acknowledged before it began.
-    fn covers_at(&self, index: &Index<'_>, place: usize) -> bool
-        requires there { place < length index.now.records.now }
-        requires finished { self.now.finished ≤ length index.now.records.now }
-        ensures { result ≡ covers_at index.now.records.now self.now.began self.now.finished self.now.kind self.now.bucket.now self.now.key.now self.now.answer.now place }
+    // Whether it covers each version with which a write of the key was acknowledged before it began: the newest.
+    fn covers_key(&self, past: &Past<'_>, key: &Bytes) -> bool
+        requires began { self.now.began ≤ length past.now.table.index.records.now }
+        requires finished { self.now.finished ≤ length past.now.table.index.records.now }
+        ensures { result ≡ covers_key past.now.table.index.records.now self.now.began self.now.finished self.now.bucket.now self.now.key.now self.now.answer.now key.now }
     {
-        match &index.records[place] {
-            Record::Began {
-                request,
-                kind,
-                bucket,
-                key,
-                ..
-            } if kind.is_write() && names(self.kind, self.key, key) && bucket == self.bucket => {
-                match acknowledged(index, place, *request) {
-                    Some((end, version)) if end < self.began => self.covers(index, key, version),
-                    _ => true,
-                }
-            }
-            _ => true,
+        match past.newest_before(self.began, self.bucket, key) {
+            Some(version) => self.covers(past, key, version),
+            None => true,
         }
     }
 
-    // Whether it covers each version with which a write of a key that it names was acknowledged before it began.
-    fn covers_each(&self, index: &Index<'_>) -> bool
-        requires began { self.now.began ≤ length index.now.records.now }
-        requires finished { self.now.finished ≤ length index.now.records.now }
-        ensures { result ≡ covers_all index.now.records.now self.now.began self.now.finished self.now.kind self.now.bucket.now self.now.key.now self.now.answer.now }
+    // Whether it covers those of each key that has its own as a prefix, key by key.
+    fn covers_listed(&self, past: &Past<'_>) -> bool
+        requires began { self.now.began ≤ length past.now.table.index.records.now }
+        requires finished { self.now.finished ≤ length past.now.table.index.records.now }
+        requires list { is_list self.now.kind ≡ true }
+        ensures { result ≡ covers_all past.now.table.index.records.now self.now.began self.now.finished self.now.kind self.now.bucket.now self.now.key.now self.now.answer.now }
     {
-        for place in 0..self.began {
-            if !self.covers_at(index, place) {
+        let rows = past.table.rows.as_slice();
+        let mut k = before(rows, self.bucket, self.key, 0);
+        while is_listed_at(rows, k, self.bucket, self.key) {
+            if !self.covers_key(past, &rows[k].key) {
                 return false;
             }
+            k = past.table.key_end(k);
         }
         true
     }
 
-    /// The same. A read of one key covers each version where it covers the newest.
-    pub fn covers_all(&self, table: &Table<'_>) -> bool
-        requires began { self.now.began ≤ length table.now.index.records.now }
-        requires finished { self.now.finished ≤ length table.now.index.records.now }
-        ensures { result ≡ covers_all table.now.index.records.now self.now.began self.now.finished self.now.kind self.now.bucket.now self.now.key.now self.now.answer.now }
+    /// Whether it covers each version with which a write of a key that it names was acknowledged before it began.
+    pub fn covers_all(&self, past: &Past<'_>) -> bool
+        requires began { self.now.began ≤ length past.now.table.index.records.now }
+        requires finished { self.now.finished ≤ length past.now.table.index.records.now }
+        ensures { result ≡ covers_all past.now.table.index.records.now self.now.began self.now.finished self.now.kind self.now.bucket.now self.now.key.now self.now.answer.now }
     {
         if self.kind.is_list() {
-            return self.covers_each(&table.index);
+            return self.covers_listed(past);
         }
-        match newest_before(table, self.began, self.bucket, self.key) {
-            Some(version) => self.covers(&table.index, self.key, version),
-            None => true,
-        }
+        self.covers_key(past, self.key)
     }
 
     // Whether the version that it shows for a key was written there, where it names the key.

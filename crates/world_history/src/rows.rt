@@ -1,17 +1,15 @@
 //! The acknowledged writes of a history, by their keys and in the order of their acknowledgements.
-ghost use Rattle.std.specs.Prelude.{◌≡◌, ◌≤◌, length, IsSorted, IfOk, ◌<◌, true, false};
+ghost use Rattle.std.specs.Prelude.{◌≡◌, ◌≤◌, ◌<◌, length, slice_get, IsSorted, IfOk, true, false};
 ghost use Rattle.std.specs.List.Sorted.{IsPartitionPoint};
 ghost use Rattle.std.specs.List.{sum_by};
 ghost use Rattle.std.specs.Ordering.{is_lt};
-ghost use Rattle.world_history.specs.Table.{row_cmp, ack_at, IsTable, is_before, is_of, one_if, version_in};
-ghost use Rattle.world_history.specs.Checks.{version_at, newer_of, IsNewestBelow};
+ghost use Rattle.world_history.specs.Table.{row_cmp, ack_at, IsTable, is_before, is_of, is_of_key, follows_key, is_listed_at, IsKeyEnd, one_if};
 ghost use Rattle.crdt_core.specs.Outcomes.{OnlyWant};
 
 use crate::finish::acknowledged;
 use crate::index::Index;
 use crdt_core::{Bytes, Memory};
-use crdt_rows::Version;
-use history_model::{Answer, Record};
+use history_model::Record;
 use std::alloc::Global;
 use std::cmp::Ordering;
 
@@ -48,8 +46,8 @@ fn acknowledged_row(alloc: Global, index: &Index<'_>, place: usize) -> Result<Op
     }
 }
 
-/// The rows of all acknowledged writes, in order.
-pub fn all_rows(alloc: Global, index: &Index<'_>) -> Result<Vec<Row>, Memory>
+// The rows of all acknowledged writes, in order.
+fn all_rows(alloc: Global, index: &Index<'_>) -> Result<Vec<Row>, Memory>
     ensures told { IfOk result (λ rows. IsTable index.now.records.now rows.items) }
     ensures want { OnlyWant result }
 {
@@ -81,8 +79,8 @@ fn is_before(row: &Row, bucket: &Bytes, key: &Bytes, place: usize) -> bool
     }
 }
 
-// How many rows stand before those of this key at this place or later.
-fn before(rows: &[Row], bucket: &Bytes, key: &Bytes, place: usize) -> usize
+/// How many rows stand before those of this key at this place or later.
+pub fn before(rows: &[Row], bucket: &Bytes, key: &Bytes, place: usize) -> usize
     requires { IsSorted row_cmp rows.now }
     ensures bound { result ≤ length rows.now }
     ensures count { result ≡ sum_by (λ r. one_if (is_before bucket.now key.now place r)) rows.now }
@@ -95,7 +93,7 @@ fn before(rows: &[Row], bucket: &Bytes, key: &Bytes, place: usize) -> usize
     )
 }
 
-// How many rows there are of this key before this place.
+/// How many rows there are of this key before this place.
 pub fn count(rows: &[Row], bucket: &Bytes, key: &Bytes, place: usize) -> usize
     requires { IsSorted row_cmp rows.now }
     ensures { result ≡ sum_by (λ r. one_if (is_of bucket.now key.now place r)) rows.now }
@@ -103,6 +101,31 @@ pub fn count(rows: &[Row], bucket: &Bytes, key: &Bytes, place: usize) -> usize
     let high = before(rows, bucket, key, place);
     let low = before(rows, bucket, key, 0);
     high - low
+}
+
+// Whether a row is one of this key.
+fn is_of_key(row: &Row, bucket: &Bytes, key: &Bytes) -> bool
+    ensures { result ≡ is_of_key bucket.now key.now row.now }
+{
+    row.bucket == *bucket && row.key == *key
+}
+
+/// Whether there is a row before place k, and it is one of this key.
+pub fn follows_key(rows: &[Row], k: usize, bucket: &Bytes, key: &Bytes) -> bool
+    requires { k ≤ length rows.now }
+    ensures { result ≡ follows_key rows.now k bucket.now key.now }
+{
+    k > 0 && is_of_key(&rows[k - 1], bucket, key)
+}
+
+/// Whether there is a row at k, and a list of the bucket with this prefix names its key.
+pub fn is_listed_at(rows: &[Row], k: usize, bucket: &Bytes, prefix: &Bytes) -> bool
+    ensures { result ≡ is_listed_at bucket.now prefix.now (slice_get rows.now k) }
+{
+    match rows.get(k) {
+        Some(row) => row.bucket == *bucket && row.key.as_slice().starts_with(prefix.as_slice()),
+        None => false,
+    }
 }
 
 /// An index with the rows of the acknowledged writes.
@@ -122,44 +145,16 @@ impl<'a> Table<'a> {
         let rows = all_rows(alloc, &index)?;
         Ok(Table { index, rows })
     }
-}
 
-// The version with which the record at this place acknowledges a write, if it does.
-fn version_in(index: &Index<'_>, place: usize) -> Option<Version>
-    ensures { result ≡ version_in index.now.records.now place }
-{
-    match index.records.get(place) {
-        Some(
-            Record::Finished {
-                answer: Answer::Version(version),
-                ..
-            },
-        ) => Some(*version),
-        _ => None,
+    /// The end of the rows of the key that the row at k has.
+    pub fn key_end(&self, k: usize) -> usize
+        requires { k < length self.now.rows.items }
+        ensures further { k < result }
+        ensures bound { result ≤ length self.now.rows.items }
+        ensures end { IsKeyEnd self.now.rows.items k (length self.now.index.records.now) result }
+    {
+        let rows = self.rows.as_slice();
+        let row = &rows[k];
+        before(rows, &row.bucket, &row.key, self.index.records.len())
     }
-}
-
-// The newer of two versions, of which each may be missing.
-fn newer(a: Option<Version>, b: Option<Version>) -> Option<Version>
-    ensures { result ≡ newer_of a b }
-{
-    match (a, b) {
-        (Some(a), Some(b)) => Some(if a < b { b } else { a }),
-        (None, b) => b,
-        (a, None) => a,
-    }
-}
-
-/// The newest version with which a write of the key was acknowledged before place i.
-pub fn newest_before(table: &Table<'_>, i: usize, bucket: &Bytes, key: &Bytes) -> Option<Version>
-    ensures { IsNewestBelow (version_at table.now.index.records.now i bucket.now key.now) i result }
-{
-    let rows = table.rows.as_slice();
-    let low = before(rows, bucket, key, 0);
-    let high = before(rows, bucket, key, i);
-    let mut newest = None;
-    for k in low..high {
-        newest = newer(newest, version_in(&table.index, rows[k].place));
-    }
-    newest
 }

@@ -1,20 +1,19 @@
-use Rattle.std.proofs.Common.{◌-◌, ◌<◌, sym, ◌∙◌, arith}
-use Rattle.world_history.specs.Checks.{writes_at}
-use Rattle.world_history.proofs.Below.{any_below_at, none_from_end, none_from_more, none_from_start}
+use Rattle.std.proofs.Common.{◌<◌, sym, subst, ◌∙◌, arith}
+use Rattle.world_history.specs.Index.{IsOrder}
+use Rattle.world_history.proofs.Sought.{written_some, written_none}
 use Rattle.world_history.proofs.read.is_written.Goals as goal
 
-pub loop-place-init : goal.loop-place-init
-loop-place-init c = none_from_end (writes_at c.args.index.now.records.now c.args.bucket.now c.args.key.now c.args.v) c.args.j
-
-pub loop-place-preserved : goal.loop-place-preserved
-loop-place-preserved c =
-    none_from_more (writes_at c.args.index.now.records.now c.args.bucket.now c.args.key.now c.args.v) c.loop-place.place c.args.j c.loop-place-test.true c.loop-place.invariant (sym c.writes_at.ensures ∙ c.if-writes_at.false)
-
--- a place that passes
+-- an entry of the range that passes
 pub returns-then-writes_at : goal.returns-then-writes_at
 returns-then-writes_at c =
-    let there : c.loop-place.place - 1 < c.args.j = omega arith in
-    sym (any_below_at (writes_at c.args.index.now.records.now c.args.bucket.now c.args.key.now c.args.v) (c.loop-place.place - 1) c.args.j there (sym c.writes_at.ensures ∙ c.if-writes_at.true))
+    let h = c.args.index.now.records.now in
+    sym (written_some h c.as_slice-order.result.now (subst (IsOrder h) (sym c.as_slice-order.ensures.value) c.args.index.now.ordered) c.args.bucket.now c.args.key.now c.args.v c.args.j c.entries_before-low.result c.entries_before-high.result
+    c.entries_before-high.ensures.bound c.entries_before-low.ensures.point c.entries_before-high.ensures.point c.loop-k.k _ c.loop-k.invariant.from c.loop-k-test.true (sym c.writes_at.ensures ∙ c.if-writes_at.true))
 
+-- none passes
 pub returns : goal.returns
-returns c = sym (none_from_start (writes_at c.args.index.now.records.now c.args.bucket.now c.args.key.now c.args.v) c.loop-place.place c.args.j c.loop-place-test.false c.loop-place.invariant)
+returns c =
+    let h = c.args.index.now.records.now in
+    sym (written_none h c.as_slice-order.result.now (subst (IsOrder h) (sym c.as_slice-order.ensures.value) c.args.index.now.ordered) c.args.bucket.now c.args.key.now c.args.v c.args.j c.entries_before-low.result c.entries_before-high.result
+    c.entries_before-high.ensures.bound c.entries_before-low.ensures.point c.entries_before-high.ensures.point
+    (λ m d up lt. let upto : m < c.loop-k.k = omega (arith, c.loop-k-test.false, lt) in c.loop-k.invariant.none m d up upto))

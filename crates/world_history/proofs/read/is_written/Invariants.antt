@@ -1,7 +1,10 @@
-use Rattle.world_history.specs.Checks.{writes_at}
-use Rattle.world_history.proofs.Below.{NoneFrom}
+use Rattle.std.proofs.Common.{◌≤◌}
+use Rattle.world_history.proofs.Sought.{NoneWrites}
 use Rattle.world_history.proofs.read.is_written.Given as goal
 
--- no later place passes
-abbrev pub invariant-loop-place : goal.invariant-loop-place
-invariant-loop-place l = NoneFrom (writes_at l.index.records.now l.bucket l.key l.v) l.place l.j
+-- no entry so far passes
+abbrev pub invariant-loop-k : goal.invariant-loop-k
+invariant-loop-k l = record {
+  none : NoneWrites l.index.records.now l.order l.bucket l.key l.v l.low l.k;
+  from : l.low ≤ l.k;
+}

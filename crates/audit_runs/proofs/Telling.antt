@@ -12,7 +12,8 @@ use Rattle.object_schema.specs.Schema.{words}
 use Rattle.wire_messages.specs.declared.phase.Phase.{Phase}
 use Rattle.cluster_machine.specs.declared.applied.Applied.{Applied}
 use Rattle.cluster_machine.specs.declared.line.Line.{Line}
-use Rattle.cluster_machine.specs.declared.line.Line.TheVariants.{Layout as Laid, Got, Sent as WasSent, Synced, Dropped, Ended as HasEnded}
+use Rattle.cluster_machine.specs.declared.line.Line.TheVariants.{Layout as Laid, Got, Sent as WasSent, Synced, Dropped, Done, Ended as HasEnded}
+use Rattle.cluster_machine.specs.declared.line.DoneWord.{DoneWord}
 use Rattle.cluster_machine.specs.declared.line.EndWord.{EndWord}
 use Rattle.cluster_machine.specs.declared.line.EndWord.TheVariants.{Expired, Restarted}
 use Rattle.cluster_machine.specs.declared.line.SentKind.{SentKind}
@@ -31,28 +32,36 @@ use Rattle.cluster_machine.specs.Step.{most_versions, given, none_given, nothing
 use Rattle.cluster_machine.specs.Trio.{trio, stage_trio}
 use Rattle.cluster_machine.specs.Worlds.{Done as Effect}
 use Rattle.store_model.specs.Run.{World}
-use Rattle.audit_accounts.specs.Saying.{IsKeyedLine}
 
 -- a layout that is given is told so
 abbrev pub GivenTells : (Line Applied → Type 0) → Decision → Type 0
 GivenTells P (given l shown) = P (Laid shown)
 GivenTells P (none_given r) = ⊤
 
-module _ (P : Line Applied → Type 0) (got : (m : ℕ) → P (Got m)) (sent : (m a b : ℕ) (k : SentKind) → P (WasSent m k a b)) (synced : (n v : ℕ) → P (Synced n v)) (dropped : (n ts id : ℕ) → P (Dropped n ts id)) (ended : (q : ℕ) (word : EndWord) → P (HasEnded q word)) (w : World) where
+-- lines that tell neither a layout nor a list's keys have the property
+pub record HasPlain (P : Line Applied → Type 0) : Type 0 where
+  pub got : (m : ℕ) → P (Got m)
+  pub sent : (m a b : ℕ) (k : SentKind) → P (WasSent m k a b)
+  pub synced : (n v : ℕ) → P (Synced n v)
+  pub dropped : (n ts id : ℕ) → P (Dropped n ts id)
+  pub ended : (q : ℕ) (word : EndWord) → P (HasEnded q word)
+  pub done : (q : ℕ) (word : DoneWord) (version : Option (ℕ × ℕ)) (size : Option ℕ) (md5 : Option (List ℕ)) → P (Done q word version size md5)
+
+module _ (P : Line Applied → Type 0) (plain : HasPlain P) (w : World) where
   abbrev Quiet : Effect AnyRow → Type 0
   Quiet e = AllByRecursion P e.tells
 
   sent_quiet : (m : ℕ) (ss : List (Sent AnyRow Layout)) → AllByRecursion P (sent_from m ss)
   sent_quiet m [] = tt
-  sent_quiet m (s ∷ ss) = (sent m s.from s.to (kind_of s.packet), sent_quiet (suc m) ss)
+  sent_quiet m (s ∷ ss) = (plain.sent m s.from s.to (kind_of s.packet), sent_quiet (suc m) ss)
 
   synced_quiet : (b : Bool) (n after : ℕ) → AllByRecursion P (cond b [] (Synced n after ∷ []))
   synced_quiet true n after = tt
-  synced_quiet false n after = (synced n after, tt)
+  synced_quiet false n after = (plain.synced n after, tt)
 
   dropped_quiet : (n : ℕ) (o : Option (ℕ × ℕ)) → AllByRecursion P (dropped_line n o)
   dropped_quiet n None = tt
-  dropped_quiet n (Some version) = (dropped n version.0 version.1, tt)
+  dropped_quiet n (Some version) = (plain.dropped n version.0 version.1, tt)
 
   cond_quiet : (b : Bool) (d e : Effect AnyRow) → Quiet d → Quiet e → Quiet (cond b d e)
   cond_quiet true d e h k = h
@@ -72,7 +81,7 @@ module _ (P : Line Applied → Type 0) (got : (m : ℕ) → P (Got m)) (sent : (
 
   expires_quiet : (q : ℕ) (o : Option Request) → Quiet (expires w q o)
   expires_quiet q None = tt
-  expires_quiet q (Some r) = cond_quiet r.is_open _ (world_refusal w AlreadyEnded) (ended q Expired, tt) tt
+  expires_quiet q (Some r) = cond_quiet r.is_open _ (world_refusal w AlreadyEnded) (plain.ended q Expired, tt) tt
 
   closing_quiet : (q : ℕ) (o : Option Request) → Quiet (closing w q o)
   closing_quiet q None = tt
@@ -107,7 +116,7 @@ module _ (P : Line Applied → Type 0) (got : (m : ℕ) → P (Got m)) (sent : (
 
   ended_quiet : (qs : List ℕ) → AllByRecursion P (map (λ q. HasEnded q Restarted) qs)
   ended_quiet [] = tt
-  ended_quiet (q ∷ qs) = (ended q Restarted, ended_quiet qs)
+  ended_quiet (q ∷ qs) = (plain.ended q Restarted, ended_quiet qs)
 
   pub step_tells : (st : Step AnyRow) (choice : Decision) → GivenTells P choice → Quiet (effects any_join words layouts trio stage_trio w st choice)
   step_tells step.Trio choice h = cond_quiet (leb 1 w.applied) (world_refusal w (VersionTaken 1)) (trio_applies any_join words layouts trio stage_trio w) tt tt
@@ -116,7 +125,7 @@ module _ (P : Line Applied → Type 0) (got : (m : ℕ) → P (Got m)) (sent : (
   step_tells (step.Apply n) choice h = applies_quiet n choice h
   step_tells (step.Tick ms) choice h = tt
   step_tells (step.Skew n ms) choice h = tt
-  step_tells (step.Deliver m) choice h = message_quiet _ (λ x. (got m, did_quiet x.to (receives any_join words layouts x.to (clock w x.to) (w.nodes x.to) x.from x.packet))) (numbered w.messages m) (numbered w.marks m)
+  step_tells (step.Deliver m) choice h = message_quiet _ (λ x. (plain.got m, did_quiet x.to (receives any_join words layouts x.to (clock w x.to) (w.nodes x.to) x.from x.packet))) (numbered w.messages m) (numbered w.marks m)
   step_tells (step.Lose m) choice h = message_quiet _ (λ x. tt) (numbered w.messages m) (numbered w.marks m)
   step_tells (step.Expire q) choice h = expires_quiet q (numbered w.requests q)
   step_tells (step.Restart n) choice h = ended_quiet (reverse (requests_of (w.nodes n).calls))
@@ -131,19 +140,3 @@ module _ (P : Line Applied → Type 0) (got : (m : ℕ) → P (Got m)) (sent : (
   step_tells (step.Open n) choice h = cond_quiet (is_member_at layouts w n) _ (world_refusal w NotMember) tt tt
   step_tells (step.Phase q phase) choice h = beginning_quiet q phase (numbered w.requests q)
   step_tells (step.Close q) choice h = closing_quiet q (numbered w.requests q)
-
--- ---- keys
-
-abbrev pub AreKeyedLines : List (Line Applied) → Type 0
-AreKeyedLines ls = AllByRecursion IsKeyedLine ls
-
-pub both_keyed : (a b : List (Line Applied)) → AreKeyedLines a → AreKeyedLines b → AreKeyedLines (a ++ b)
-both_keyed a b h k = all_append IsKeyedLine a b h k
-
-given_keyed : (choice : Decision) → GivenTells IsKeyedLine choice
-given_keyed (given l shown) = tt
-given_keyed (none_given r) = tt
-
--- no step of the world tells of keys
-pub step_keyed : (w : World) (st : Step AnyRow) (choice : Decision) → AreKeyedLines (effects any_join words layouts trio stage_trio w st choice).tells
-step_keyed w st choice = step_tells IsKeyedLine (λ m. tt) (λ m a b k. tt) (λ n v. tt) (λ n ts id. tt) (λ q word. tt) w st choice (given_keyed choice)

@@ -1,5 +1,5 @@
 -- The steps of an outcome lead to its world; what fits and has room in two parts; and a drain is one delivery after the other.
-use Rattle.std.proofs.Common.{◌≡◌, ℕ, zero, suc, Bool, true, false, cond, Option, Some, None, List, [], ◌∷◌, ◌++◌, refl}
+use Rattle.std.proofs.Common.{◌≡◌, ℕ, zero, suc, Bool, true, false, cond, Option, Some, None, List, [], ◌∷◌, ◌++◌, refl, ap, ◌∙◌}
 use Rattle.wire_messages.specs.declared.phase.PhaseEnd.{PhaseEnd}
 use Rattle.wire_messages.specs.declared.phase.PhaseEnd.TheVariants.{Row, Window, Kept, Block}
 use Rattle.cluster_machine.specs.declared.step.Step.TheVariants.{Deliver}
@@ -83,6 +83,16 @@ pub delivers_lead : (s : State) (m : ℕ) → Leads s (delivers s m)
 delivers_lead s m = goes_on_leads (doing s (plainly (Deliver m))) (effect s (plainly (Deliver m))).ends
 
 -- ---- drains
+
+pub drains_lead : (n : ℕ) (s : State) → Leads s (drains n s)
+drains_lead zero s = refl
+drains_lead (suc n) s =
+    elim (undelivered s.world) as (λ o. Leads s (elim o as (λ o. Outcome) [ None ↦ silent s | Some m ↦ let o = delivers s m in then_drains o (drains n o.state) ])) [
+      | None ↦ refl
+      | Some m ↦
+          let o : Outcome = delivers s m in
+          run_more s.world o.moves (drains n o.state).moves ∙ ap (λ w. run row_join words w (drains n o.state).moves) (delivers_lead s m) ∙ drains_lead n o.state
+    ]
 
 -- it says nothing but what its deliveries tell
 pub drains_quietly : (n : ℕ) (s : State) → (drains n s).refused ≡ None
