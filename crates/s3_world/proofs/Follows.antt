@@ -93,11 +93,12 @@ quiet_follow : (s : State) (q : ℕ) (end : PhaseEnd AnyRow) → kept (numbered 
 quiet_follow s q end none = quiet_by s q end (numbered s.asked q) refl none
 
 -- nothing is kept of it
-pub follow_nobody : {F : Type 0} (aloud : Bool) (old : Driver F) (q : ℕ) (end : PhaseEnd AnyRow) (told : Told) → asked_at old.requests q ≡ None → told ≡ record { refused = None; words = Empty; lines = [] } →
-    PlaysHeard aloud old old told (λ s. follow s q (numbered s.asked q) end)
-follow_nobody aloud old q end told none says given s d =
+pub follow_nobody : {F : Type 0} (aloud : Bool) (old : Driver F) (requests : BTreeMap ℕ Asked) → requests ≡ old.requests → (q : ℕ) (end : PhaseEnd AnyRow) (told : Told) → asked_at old.requests q ≡ None → told ≡ record { refused = None; words = Empty; lines = [] } →
+    PlaysHeard aloud old (record old { requests = requests }) told (λ s. follow s q (numbered s.asked q) end)
+follow_nobody aloud old requests same q end told none says given s d =
     let P : Outcome → Type 0 = λ o. DoesHeard given aloud old told s o in
-    subst P (sym (quiet_follow s q end (sym (d.requests q) ∙ ap known none))) (silent_plays aloud old told says given s d)
+    let did : DoesHeard given aloud old told s (follow s q (numbered s.asked q) end) = subst P (sym (quiet_follow s q end (sym (d.requests q) ∙ ap known none))) (silent_plays aloud old told says given s d) in
+    subst (λ rs. DoesHeard given aloud (record old { requests = rs }) told s (follow s q (numbered s.asked q) end)) (sym same) did
 
 -- the state is the same
 pub still_plays : {F : Type 0} (aloud : Bool) (old mid new : Driver F) (told : Told) (f : State → Outcome) → ((given : Handed) (s : State) → IsHanding given mid s → IsHanding given new s) → PlaysHeard aloud old mid told f → PlaysHeard aloud old new told f

@@ -152,9 +152,9 @@ module _ (requests requests_done : BTreeMap ℕ Asked) (s : State) (q : ℕ) (en
   over_came None over = absurd over
   over_came (Some m) over = ap (λ fl. gathered_of (Some (record m { flow = fl })) (Some end)) over
 
-  over_found : (o : Option Waiting) (none : Option FlowEnd) (seen : Option (Version × Meta)) → IsOver o → none ≡ None → found_of o none seen ≡ None
-  over_found None none seen over is = absurd over
-  over_found (Some m) none seen over is = not_there m none seen over is
+  over_found : (o : Option Waiting) (now : Option FlowEnd) (seen : Option (Version × Meta)) → IsOver o → now ≡ None → found_of o now seen ≡ None
+  over_found None now seen over is = absurd over
+  over_found (Some m) now seen over is = not_there m now seen over is
 
   module _ {given : Handed} (reads : AreRead given requests s) where
     over_here : IsOver (numbered s.asked q)

@@ -24,7 +24,7 @@ module _ {F : Type 0} (old : Driver F) (q : ℕ) where
     no_block : (blocks : Option (List (List ℕ))) → has_block blocks ≡ false → HasNoBlock blocks
     no_block None h = tt
     no_block (Some []) h = refl
-    no_block (Some (b ∷ blocks)) h = absurd (cc)
+    no_block (Some (b ∷ blocks)) h = absurd (let e : true ≡ false = h in cc)
 
     -- no block waits
     pub none_left : has_block a.blocks ≡ false → (s : State) (bytes : List ℕ) → IsHanding (of q bytes) old s → HasAll s q bytes

@@ -6,7 +6,7 @@ use Rattle.s3_world.proofs.Kept.{written, is_written}
 use Rattle.s3_world.proofs.driver.Driver.follow.Goals as goal
 
 pub returns-in_default-clause-plays : goal.returns-in_default-clause-plays
-returns-in_default-clause-plays g c = follow_nobody c.args.heard c.args.self.now c.args.request c.args.end c.accepted.result (sym c.in_default.ensures.value) (rw c.new.ensures at c.accepted.ensures)
+returns-in_default-clause-plays g c = follow_nobody c.args.heard c.args.self.now c.get_mut.follows.lender-at-none c.get_mut.follows.holds-at-none c.args.request c.args.end c.accepted.result (sym c.in_default.ensures.value) (rw c.new.ensures at c.accepted.ensures)
 
 pub returns-in_default-2-clause-plays : goal.returns-in_default-2-clause-plays
 returns-in_default-2-clause-plays g c =
@@ -22,11 +22,11 @@ pub next-requires : goal.next-requires
 next-requires g c = sized c.args.heard c.args.self.now c.args.request c.in-Some.asked.now (sym c.in-Some.ensures.value) c.args.end c.in-Some-2.flow (sym c.in_ok-flow.ensures.flow ∙ c.in-Some-2.is) c.requires.stands
 
 pub begins-requires-clause-there : goal.begins-requires-clause-there
-begins-requires-clause-there g c = is_written c.args.self.now.requests _ c.args.request c.hears.new.self
+begins-requires-clause-there g c = is_written c.args.self.now.requests (c.get_mut.follows.lender c.hears.new.self) c.args.request c.hears.new.self
     (written c.args.self.now.requests _ c.args.request c.in-Some.asked.now c.hears.new.self (sym c.in-Some.ensures.value) (c.get_mut.follows.holds c.hears.new.self))
 
 pub waits-requires : goal.waits-requires
-waits-requires g c = is_written c.args.self.now.requests _ c.args.request c.hears.new.self
+waits-requires g c = is_written c.args.self.now.requests (c.get_mut.follows.lender c.hears.new.self) c.args.request c.hears.new.self
     (written c.args.self.now.requests _ c.args.request c.in-Some.asked.now c.hears.new.self (sym c.in-Some.ensures.value) (c.get_mut.follows.holds c.hears.new.self))
 
 pub begins-requires-clause-short : goal.begins-requires-clause-short
@@ -61,17 +61,17 @@ returns-in-Need-clause-plays g c =
     (written c.args.self.now.requests _ c.args.request c.in-Some.asked.now c.hears.new.self (sym c.in-Some.ensures.value) (c.get_mut.follows.holds c.hears.new.self))
     c.waits.ensures (rw c.new-in-Need.ensures at c.accepted-in-Need.ensures)
 
-pub returns-in_ok-told-clause-plays : goal.returns-in_ok-told-clause-plays
-returns-in_ok-told-clause-plays g c =
-    still_plays c.args.heard c.args.self.now c.finishes.new.self c.forgets.new.self c.in_ok-told.told _ c.forgets.ensures.same
+pub returns-in_ok-told-in-End-clause-plays : goal.returns-in_ok-told-in-End-clause-plays
+returns-in_ok-told-in-End-clause-plays g c =
+    still_plays c.args.heard c.args.self.now c.finishes.new.self c.forgets.new.self c.in_ok-told-in-End.told _ c.forgets.ensures.same
     (end_plays c.args.heard c.args.self.now c.args.request c.in-Some.asked.now (sym c.in-Some.ensures.value) c.args.end c.in-Some-2.flow (sym c.in_ok-flow.ensures.flow ∙ c.in-Some-2.is) c.clock-now.result c.clock-now.ensures
     c.in_ok-flow-2.field-0 c.in_ok-flow-2.ensures.is c.in-End.end c.in-End.is _ c.hears.new.self (c.in_ok-flow.ensures.keeps ∙ ap (λ fl. after_phase c.in-Some.asked.now fl c.args.end) (sym c.in_ok-flow.ensures.flow ∙ c.in-Some-2.is))
     (written c.args.self.now.requests _ c.args.request c.in-Some.asked.now c.hears.new.self (sym c.in-Some.ensures.value) (c.get_mut.follows.holds c.hears.new.self))
-    c.finishes.new.self c.in_ok-told.told c.in_ok-told.ensures.finishes)
+    c.finishes.new.self c.in_ok-told-in-End.told c.in_ok-told-in-End.ensures.finishes)
 
-pub returns-in_err-told-clause-causes : goal.returns-in_err-told-clause-causes
-returns-in_err-told-clause-causes g c =
-    handed_on c.from_residual-in_err-told.result c.in_err-told.field-0.0 c.from_residual-in_err-told.ensures.1 (end_overflows c.args.heard c.args.self.now c.args.request c.in-Some.asked.now (sym c.in-Some.ensures.value) c.args.end c.in-Some-2.flow (sym c.in_ok-flow.ensures.flow ∙ c.in-Some-2.is) c.clock-now.result c.clock-now.ensures
+pub returns-in_err-told-in-End-clause-causes : goal.returns-in_err-told-in-End-clause-causes
+returns-in_err-told-in-End-clause-causes g c =
+    handed_on c.from_residual-in_err-told-in-End.result c.in_err-told-in-End.field-0.0 c.from_residual-in_err-told-in-End.ensures.1 (end_overflows c.args.heard c.args.self.now c.args.request c.in-Some.asked.now (sym c.in-Some.ensures.value) c.args.end c.in-Some-2.flow (sym c.in_ok-flow.ensures.flow ∙ c.in-Some-2.is) c.clock-now.result c.clock-now.ensures
     c.in_ok-flow-2.field-0 c.in_ok-flow-2.ensures.is c.in-End.end c.in-End.is _ c.hears.new.self (c.in_ok-flow.ensures.keeps ∙ ap (λ fl. after_phase c.in-Some.asked.now fl c.args.end) (sym c.in_ok-flow.ensures.flow ∙ c.in-Some-2.is))
     (written c.args.self.now.requests _ c.args.request c.in-Some.asked.now c.hears.new.self (sym c.in-Some.ensures.value) (c.get_mut.follows.holds c.hears.new.self)))
-    c.in_err-told.ensures.causes
+    c.in_err-told-in-End.ensures.causes
