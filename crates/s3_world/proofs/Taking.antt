@@ -1,6 +1,6 @@
 -- What taking the first block that waits does to the driver.
-use Rattle.std.proofs.Common.{◌≡◌, ℕ, true, false, Option, Some, None, List, [], ◌∷◌, ◌++◌, refl, sym, ap, ◌∙◌, subst}
-use Rattle.std.specs.Prelude.{IfSome, IfNone}
+use Rattle.std.proofs.Common.{◌≡◌, ℕ, suc, true, false, Option, Some, None, List, [], ◌∷◌, ◌++◌, length, refl, sym, ap, ◌∙◌, subst, arith}
+use Rattle.std.specs.Prelude.{◌==◌, not, IfSome}
 use Rattle.std.specs.BTreeMap.{BTreeMap}
 use Rattle.store_model.specs.Run.{State}
 use Rattle.flow_model.specs.declared.flow.Flow.{Flow}
@@ -8,6 +8,7 @@ use Rattle.s3_world.specs.declared.asked.Asked.{Asked}
 use Rattle.s3_world.specs.declared.driver.Driver.{Driver}
 use Rattle.s3_world.specs.Driven.{known_with, known, kept, IsSized, IsHanding}
 use Rattle.s3_world.specs.Reads.{of, asked_at, Writes, flow_in, HasNoBlock, has_block, HasAll}
+use Rattle.s3_world.proofs.Overs.{differs}
 use Rattle.s3_world.proofs.Kept.{same_for, waiting_at}
 use Rattle.s3_world.proofs.Handing.{piece_handed, all_handed, over_handed}
 
@@ -24,7 +25,9 @@ module _ {F : Type 0} (old : Driver F) (q : ℕ) where
     no_block : (blocks : Option (List (List ℕ))) → has_block blocks ≡ false → HasNoBlock blocks
     no_block None h = tt
     no_block (Some []) h = refl
-    no_block (Some (b ∷ blocks)) h = absurd (let e : true ≡ false = h in cc)
+    no_block (Some (b ∷ blocks)) h =
+        let some : (suc (length blocks) == 0) ≡ false = differs (suc (length blocks)) 0 (λ e. absurd (omega (arith, e))) in
+        absurd (let e : true ≡ false = sym (ap not some) ∙ h in cc)
 
     -- no block waits
     pub none_left : has_block a.blocks ≡ false → (s : State) (bytes : List ℕ) → IsHanding (of q bytes) old s → HasAll s q bytes

@@ -72,6 +72,6 @@ returns-in_ok-told-in-End-clause-plays g c =
 pub returns-in_err-told-in-End-clause-causes : goal.returns-in_err-told-in-End-clause-causes
 returns-in_err-told-in-End-clause-causes g c =
     handed_on c.from_residual-in_err-told-in-End.result c.in_err-told-in-End.field-0.0 c.from_residual-in_err-told-in-End.ensures.1 (end_overflows c.args.heard c.args.self.now c.args.request c.in-Some.asked.now (sym c.in-Some.ensures.value) c.args.end c.in-Some-2.flow (sym c.in_ok-flow.ensures.flow ∙ c.in-Some-2.is) c.clock-now.result c.clock-now.ensures
-    c.in_ok-flow-2.field-0 c.in_ok-flow-2.ensures.is c.in-End.end c.in-End.is _ c.hears.new.self (c.in_ok-flow.ensures.keeps ∙ ap (λ fl. after_phase c.in-Some.asked.now fl c.args.end) (sym c.in_ok-flow.ensures.flow ∙ c.in-Some-2.is))
-    (written c.args.self.now.requests _ c.args.request c.in-Some.asked.now c.hears.new.self (sym c.in-Some.ensures.value) (c.get_mut.follows.holds c.hears.new.self)))
+    c.in_ok-flow-2.field-0 c.in_ok-flow-2.ensures.is c.in-End.end c.in-End.is (c.get_mut.follows.lender c.hears.new.self) c.hears.new.self (c.in_ok-flow.ensures.keeps ∙ ap (λ fl. after_phase c.in-Some.asked.now fl c.args.end) (sym c.in_ok-flow.ensures.flow ∙ c.in-Some-2.is))
+    (written c.args.self.now.requests (c.get_mut.follows.lender c.hears.new.self) c.args.request c.in-Some.asked.now c.hears.new.self (sym c.in-Some.ensures.value) (c.get_mut.follows.holds c.hears.new.self)))
     c.in_err-told-in-End.ensures.causes
