@@ -1,12 +1,12 @@
 -- Nothing has happened.
-use Rattle.std.proofs.Common.{◌≡◌, ℕ, zero, suc, Option, None, List, [], refl, sym, ap, ◌∙◌, subst}
+use Rattle.std.proofs.Common.{◌≡◌, ℕ, zero, suc, None, [], refl, sym, ap, ◌∙◌, subst}
 use Rattle.std.specs.BTreeMap.{is_at}
 use Rattle.std.specs.Map.{lookup}
 use Rattle.std.specs.Ordering.{nat_cmp}
 use Rattle.crdt_rows.specs.AnyRow.{any_join}
 use Rattle.object_schema.specs.Schema.{words}
 use Rattle.cluster_machine.specs.World.{numbered}
-use Rattle.store_model.specs.Run.{State, Asked as Waiting, start}
+use Rattle.store_model.specs.Run.{Asked as Waiting, start}
 use Rattle.store_model.specs.Acts.{end_of}
 use Rattle.store_model.specs.Gets.{object_seen, gathered}
 use Rattle.world_core.specs.Stands.{StandsFor}

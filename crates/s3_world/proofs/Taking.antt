@@ -6,7 +6,7 @@ use Rattle.store_model.specs.Run.{State}
 use Rattle.flow_model.specs.declared.flow.Flow.{Flow}
 use Rattle.s3_world.specs.declared.asked.Asked.{Asked}
 use Rattle.s3_world.specs.declared.driver.Driver.{Driver}
-use Rattle.s3_world.specs.Driven.{known_with, known, kept, IsSized, IsHanding}
+use Rattle.s3_world.specs.Driven.{known_with, known, IsSized, IsHanding}
 use Rattle.s3_world.specs.Reads.{of, asked_at, Writes, flow_in, HasNoBlock, has_block, HasAll}
 use Rattle.s3_world.proofs.Overs.{differs}
 use Rattle.s3_world.proofs.Kept.{same_for, waiting_at}
@@ -32,13 +32,6 @@ module _ {F : Type 0} (old : Driver F) (q : ℕ) where
     -- no block waits
     pub none_left : has_block a.blocks ≡ false → (s : State) (bytes : List ℕ) → IsHanding (of q bytes) old s → HasAll s q bytes
     none_left none = left_by a.flow refl (no_block a.blocks none)
-
-    some_block : (blocks : Option (List (List ℕ))) → HasNoBlock blocks → has_block blocks ≡ true → ⊥
-    some_block None none some = cc
-    some_block (Some blocks) none some = (let h : false ≡ true = sym (ap (λ bs. has_block (Some bs)) none) ∙ some in cc)
-
-    pub has_some : has_block a.blocks ≡ true → HasNoBlock a.blocks → ⊥
-    has_some some none = some_block a.blocks none some
 
     module _ (requests : BTreeMap ℕ Asked) where
       abbrev taken : Driver F
