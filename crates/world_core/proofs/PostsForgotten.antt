@@ -1,17 +1,18 @@
 -- A delivered message counts as lost: the slots one after the other, and the post after that.
-use Rattle.std.proofs.Common.{◌≡◌, ◌≢◌, ℕ, zero, suc, ◌+◌, ◌<◌, ◌≤◌, Bool, true, false, Some, None, List, [], ◌∷◌, length, map, refl, sym, ap, ap₂, ◌∙◌, subst, arith, inl, inr}
+use Rattle.std.proofs.Common.{◌≡◌, ◌≢◌, ℕ, zero, suc, ◌+◌, ◌<◌, ◌≤◌, Bool, true, false, not, ◌&&◌, Some, None, List, [], ◌∷◌, ◌++◌, length, map, refl, sym, ap, ap₂, ◌∙◌, subst, arith, inl, inr}
 use Rattle.std.proofs.lemmas.Option.{slice_get-map, slice_get_past}
-use Rattle.std.proofs.lemmas.List.{length-map}
+use Rattle.std.proofs.lemmas.List.{append_assoc, map-append, take-append-drop}
 use Rattle.std.proofs.lemmas.Bool.{cases_lt, cases_eq}
-use Rattle.std.specs.Prelude.{Option, option_map, slice_get, slice_set, ◌^◌}
-use Rattle.std.specs.List.{AllZip}
+use Rattle.crdt_core.proofs.Each.{all_append, all_weaker}
+use Rattle.std.specs.Prelude.{Option, is_some, option_map, slice_get, slice_set, take, drop, ◌^◌}
+use Rattle.std.specs.List.{AllZip, AllByRecursion}
 use Rattle.layout_roles.specs.declared.layout.Layout.{Layout}
 use Rattle.table_schema.specs.Words.{Words}
 use Rattle.cluster_machine.specs.World.{Sent, Mark, forgot}
 use Rattle.node_parts.specs.declared.packet.Envelope.{Envelope}
 use Rattle.world_core.specs.declared.post.Slot.{Slot}
 use Rattle.world_core.specs.declared.post.Post.{Post}
-use Rattle.world_core.specs.Parts.{mark_of, is_waiting, forgotten, IsHeld, AreGone, AreLost, IsFirst, IsPost}
+use Rattle.world_core.specs.Parts.{mark_of, is_waiting, forgotten, IsHeld, IsOver, AreGone, IsFirst, IsPost}
 
 same_lists : {A : Type 0} (xs ys : List A) → ((i : ℕ) → slice_get xs i ≡ slice_get ys i) → xs ≡ ys
 same_lists [] [] e = refl
@@ -31,41 +32,41 @@ get_set_other (y ∷ ys) zero (suc j) new ne = refl
 get_set_other (y ∷ ys) (suc i) zero new ne = refl
 get_set_other (y ∷ ys) (suc i) (suc j) new ne = get_set_other ys i j new (λ e. ne (ap suc e))
 
+get_drop : {A : Type 0} (xs : List A) (n : ℕ) → slice_get (drop n xs) 0 ≡ slice_get xs n
+get_drop xs zero = refl
+get_drop [] (suc n) = refl
+get_drop (x ∷ xs) (suc n) = get_drop xs n
+
 module _ {R : Type 0} where
-  -- the slots from `kept` up to `place` are forgotten, if they were delivered
-  pub record Forgets (old new : List (Slot R)) (kept place : ℕ) : Type 0 where
-    pub low : kept ≤ place
-    pub before : (i : ℕ) → i < kept → slice_get new i ≡ slice_get old i
-    pub within : (i : ℕ) → kept ≤ i → i < place → slice_get new i ≡ option_map forgotten (slice_get old i)
+  -- the slots up to `place` are forgotten, if they were delivered
+  pub record Forgets (old new : List (Slot R)) (place : ℕ) : Type 0 where
+    pub before : (i : ℕ) → i < place → slice_get new i ≡ option_map forgotten (slice_get old i)
     pub after : (i : ℕ) → place ≤ i → slice_get new i ≡ slice_get old i
 
-  pub forgets_none : (slots : List (Slot R)) (kept : ℕ) → Forgets slots slots kept kept
-  forgets_none slots kept = record { low = omega arith; before = λ i h. refl; within = λ i low high. absurd (omega arith); after = λ i h. refl }
+  pub forgets_none : (slots : List (Slot R)) → Forgets slots slots 0
+  forgets_none slots = record { before = λ i h. absurd (omega arith); after = λ i h. refl }
 
-  pub forgets_more : (old new : List (Slot R)) (kept place : ℕ) (slot : Slot R) → slice_get new place ≡ Some slot → Forgets old new kept place →
-      Forgets old (slice_set new place (forgotten slot)) kept (place + 1)
-  forgets_more old new kept place slot there f =
-      let low : kept ≤ place = f.low in
+  pub forgets_more : (old new : List (Slot R)) (place : ℕ) (slot : Slot R) → slice_get new place ≡ Some slot → Forgets old new place → Forgets old (slice_set new place (forgotten slot)) (place + 1)
+  forgets_more old new place slot there f =
       let was : slice_get old place ≡ Some slot = sym (f.after place (omega arith)) ∙ there in
       let here : slice_get (slice_set new place (forgotten slot)) place ≡ option_map forgotten (slice_get old place) =
       get_set_same new place (forgotten slot) slot there ∙ ap (option_map forgotten) (sym was) in
       record {
-        low = omega arith;
-        before = λ i h. get_set_other new place i (forgotten slot) (λ e. omega arith) ∙ f.before i h;
-        within = λ i from to. elim (cases_eq i place) [
+        before = λ i h. elim (cases_eq i place) [
           | inl e ↦ subst (λ k. slice_get (slice_set new place (forgotten slot)) k ≡ option_map forgotten (slice_get old k)) (sym e) here
-          | inr ne ↦ get_set_other new place i (forgotten slot) ne ∙ f.within i from (omega arith)
+          | inr ne ↦ get_set_other new place i (forgotten slot) ne ∙ f.before i (omega arith)
         ];
         after = λ i h. get_set_other new place i (forgotten slot) (λ e. omega arith) ∙ f.after i (omega arith);
       }
 
-  stays : (e : Option (Envelope R)) (d : Bool) → e ≡ None → record { envelope = e; is_delivered = d } ≡ forgotten (record { envelope = e; is_delivered = d })
-  stays e true h = ap (λ x. record { envelope = x; is_delivered = true }) h
-  stays e false h = refl
+  forgets_at : (old new : List (Slot R)) (place : ℕ) → Forgets old new place → length old ≤ place → (i : ℕ) → slice_get new i ≡ option_map forgotten (slice_get old i)
+  forgets_at old new place f long i = elim (cases_lt i place) [
+    | inl lt ↦ f.before i lt
+    | inr past ↦ let none : slice_get old i ≡ None = slice_get_past old i (omega arith) in f.after i past ∙ none ∙ ap (option_map forgotten) (sym none)
+  ]
 
-  lost_stays : (o : Option (Slot R)) → ((slot : Slot R) → o ≡ Some slot → slot.envelope ≡ None) → o ≡ option_map forgotten o
-  lost_stays None h = refl
-  lost_stays (Some slot) h = ap Some (stays slot.envelope slot.is_delivered (h slot refl))
+  pub forgets_all : (old new : List (Slot R)) (place : ℕ) → Forgets old new place → length old ≤ place → new ≡ map forgotten old
+  forgets_all old new place f long = same_lists new (map forgotten old) (λ i. forgets_at old new place f long i ∙ sym (slice_get-map forgotten old i))
 
   marks_by : (e : Option (Envelope R)) (d : Bool) → mark_of (forgotten (record { envelope = e; is_delivered = d })) ≡ forgot (mark_of (record { envelope = e; is_delivered = d }))
   marks_by e true = refl
@@ -99,43 +100,48 @@ module _ {R : Type 0} where
   at_forgotten (slot ∷ slots) zero x h = (slot, refl, cc)
   at_forgotten (slot ∷ slots) (suc i) x h = at_forgotten slots i x h
 
-  first_forgotten : (slots : List (Slot R)) (n : ℕ) → IsFirst slots n → IsFirst (map forgotten slots) n
-  first_forgotten slots n f = record {
-    within = rw length-map f.within;
-    before = λ i x lt h. let at = at_forgotten slots i x h in rw at.2 (waits_forgotten at.0.envelope at.0.is_delivered ∙ f.before i at.0 lt at.1);
-    here = λ x h. let at = at_forgotten slots n x h in rw at.2 (waits_forgotten at.0.envelope at.0.is_delivered ∙ f.here at.0 at.1);
+  -- the first n slots, none of which waits, are over once they are forgotten
+  over_forgotten : (slots : List (Slot R)) → AllByRecursion (λ slot. is_waiting slot ≡ false) slots → AllByRecursion IsOver (map forgotten slots)
+  over_forgotten [] gone = tt
+  over_forgotten (slot ∷ slots) gone = (gone_by slot.envelope slot.is_delivered gone.0, over_forgotten slots gone.1)
+
+  gone_front : (slots : List (Slot R)) (n : ℕ) → AreGone slots n → AllByRecursion (λ slot. is_waiting slot ≡ false) (take n slots)
+  gone_front slots zero g = tt
+  gone_front [] (suc n) g = tt
+  gone_front (slot ∷ slots) (suc n) g = (g 0 slot (omega arith) refl, gone_front slots n (λ i x lt h. g (suc i) x (omega arith) h))
+
+  lost_waits : (d : Bool) (e : Option (Envelope R)) → e ≡ None → not d && is_some e ≡ false
+  lost_waits true e h = refl
+  lost_waits false e h = rw h refl
+
+  -- the first slot that is left waits
+  first_left : (slots : List (Slot R)) (n : ℕ) → IsFirst slots n → IsFirst (map forgotten (drop n slots)) 0
+  first_left slots n f = record {
+    within = omega arith;
+    before = λ i x lt h. absurd (omega arith);
+    here = λ x h.
+        let at = at_forgotten (drop n slots) 0 x h in
+        rw at.2 (waits_forgotten at.0.envelope at.0.is_delivered ∙ f.here at.0 (sym (get_drop slots n) ∙ at.1));
   }
 
-  lost_forgotten : (slots : List (Slot R)) (n : ℕ) → AreGone slots n → AreLost (map forgotten slots) n
-  lost_forgotten slots n g i x lt h = let at = at_forgotten slots i x h in rw at.2 (gone_by at.0.envelope at.0.is_delivered (g i at.0 lt at.1))
-
-  forgot_at : (old new : List (Slot R)) (kept place : ℕ) → AreLost old kept → Forgets old new kept place → length old ≤ place → (i : ℕ) → slice_get new i ≡ option_map forgotten (slice_get old i)
-  forgot_at old new kept place lost f long i =
-      elim (cases_lt i kept) [
-        | inl lt ↦ f.before i lt ∙ lost_stays (slice_get old i) (λ slot e. lost i slot lt e)
-        | inr ge ↦ elim (cases_lt i place) [
-          | inl lt ↦ f.within i ge lt
-          | inr past ↦ let none : slice_get old i ≡ None = slice_get_past old i (omega arith) in f.after i past ∙ none ∙ ap (option_map forgotten) (sym none)
-        ]
-      ]
-
-  forgot_all : (old new : List (Slot R)) (kept place : ℕ) → AreLost old kept → Forgets old new kept place → length old ≤ place → new ≡ map forgotten old
-  forgot_all old new kept place lost f long =
-      same_lists new (map forgotten old) (λ i. forgot_at old new kept place lost f long i ∙ sym (slice_get-map forgotten old i))
-
-  pub forgot_post : (s : Words R) (old new : Post R) (messages : List (Sent R Layout)) (marks : List Mark) (place : ℕ) → IsPost s old messages marks →
-      Forgets old.slots.items new.slots.items old.kept place → length old.slots.items ≤ place → new.first ≡ old.first → new.kept ≡ old.first → new.bytes ≡ old.bytes →
-      IsPost s new messages (map forgot marks)
-  forgot_post s old new messages marks place p f long ef ek eb =
+  pub forgot_post : (s : Words R) (old new : Post R) (messages : List (Sent R Layout)) (marks : List Mark) → IsPost s old messages marks →
+      new.slots.items ≡ map forgotten (drop old.first old.slots.items) → new.first ≡ 0 → new.sent ≡ old.sent → new.bytes ≡ old.bytes → IsPost s new messages (map forgot marks)
+  forgot_post s old new messages marks p es ef en eb =
       let slots = old.slots.items in
-      let es : new.slots.items ≡ map forgotten slots = forgot_all slots new.slots.items old.kept place p.lost f long in
+      let ended = p.over ++ take old.first slots in
+      let parts : ended ++ drop old.first slots ≡ p.over ++ slots = append_assoc p.over (take old.first slots) (drop old.first slots) ∙ ap (p.over ++◌) (take-append-drop old.first slots) in
+      let all : map forgotten (p.over ++ slots) ≡ map forgotten ended ++ new.slots.items =
+      ap (map forgotten) (sym parts) ∙ map-append forgotten ended (drop old.first slots) ∙ ap (map forgotten ended ++◌) (sym es) in
+      let gone = all_append (λ slot. is_waiting slot ≡ false) p.over (take old.first slots)
+      (all_weaker IsOver (λ slot. is_waiting slot ≡ false) (λ slot h. lost_waits slot.is_delivered slot.envelope h) p.over p.lost) (gone_front slots old.first p.first.before) in
       let small : old.bytes < 2 ^ 64 = p.small in
       record {
-        marks_are = ap (map mark_of) es ∙ marks_forgotten slots ∙ ap (map forgot) p.marks_are;
-        held = subst (λ xs. AllZip IsHeld xs messages) (sym es) (held_forgotten slots messages p.held);
-        first = subst (λ n. IsFirst new.slots.items n) (sym ef) (subst (λ xs. IsFirst xs old.first) (sym es) (first_forgotten slots old.first p.first));
-        kept = omega arith;
-        lost = subst (λ n. AreLost new.slots.items n) (sym ek) (subst (λ xs. AreLost xs old.first) (sym es) (lost_forgotten slots old.first p.first.before));
+        over = map forgotten ended;
+        lost = over_forgotten ended gone;
+        marks_are = ap (map mark_of) (sym all) ∙ marks_forgotten (p.over ++ slots) ∙ ap (map forgot) p.marks_are;
+        held = subst (λ xs. AllZip IsHeld xs messages) all (held_forgotten (p.over ++ slots) messages p.held);
+        first = subst (λ n. IsFirst new.slots.items n) (sym ef) (subst (λ xs. IsFirst xs 0) (sym es) (first_left slots old.first p.first));
+        sent = p.sent ∙ sym en;
         bytes = p.bytes ∙ ap Some (sym eb);
         few = p.few;
         small = omega arith;

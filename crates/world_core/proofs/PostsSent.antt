@@ -1,7 +1,6 @@
 -- Messages that are sent one after the other: what they count together, and the line of each.
 use Rattle.std.proofs.Common.{◌≡◌, ℕ, suc, ◌+◌, List, [], ◌∷◌, ◌++◌, length, refl, sym, ap, ap₂, ◌∙◌, subst, arith}
 use Rattle.std.proofs.lemmas.List.{append_assoc, append-nil, map-append, nil_from_length}
-use Rattle.std.proofs.lemmas.Slice.Zip.{AllZip-long}
 use Rattle.std.specs.List.{AllZip}
 use Rattle.layout_roles.specs.declared.layout.Layout.{Layout}
 use Rattle.table_schema.specs.Words.{Words}
@@ -14,7 +13,7 @@ use Rattle.cluster_machine.specs.declared.line.Line.{Line}
 use Rattle.cluster_machine.specs.declared.line.Line.TheVariants.{Sent as WasSent}
 use Rattle.node_parts.specs.declared.packet.Envelope.{Envelope}
 use Rattle.cluster_machine.specs.declared.applied.Applied.{Applied}
-use Rattle.world_core.specs.Parts.{kind_of, lines_from, IsPost, IsSent, IsHeld, AreSent, not_yet}
+use Rattle.world_core.specs.Parts.{kind_of, lines_from, IsPost, IsSent, AreSent, not_yet}
 
 pub taken : {A : Type 0} (xs ys all : List A) → xs ++ ys ≡ all → length ys ≡ 0 → all ≡ xs
 taken xs ys all e none = sym e ∙ ap (xs ++◌) (nil_from_length ys none) ∙ append-nil xs
@@ -89,6 +88,3 @@ module _ {R : Type 0} where
       new ≡ old ++ lines_from n (es ++ e ∷ [])
   told_more old mid new n k es e before put at =
       put ∙ ap₂ (λ xs i. xs ++ lines_from i (e ∷ [])) before at ∙ append_assoc old (lines_from n es) (lines_from (n + length es) (e ∷ [])) ∙ ap (old ++◌) (sym (lines_append n es (e ∷ [])))
-
-  pub length_of : (s : Words R) (post : Post R) (messages : List (Sent R Layout)) (marks : List Mark) → IsPost s post messages marks → length messages ≡ length post.slots.items
-  length_of s post messages marks p = AllZip-long IsHeld post.slots.items messages p.held

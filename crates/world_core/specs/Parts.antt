@@ -1,6 +1,6 @@
 -- When the parts of the code stand for those of a world of the machine.
-use Rattle.std.specs.Prelude.{◌≡◌, ◌<◌, ◌≤◌, ◌+◌, ◌^◌, ℕ, suc, Bool, true, false, not, ◌&&◌, cond, Option, Some, None, is_some, is_none, List, [], ◌∷◌, length, map, slice_get, slice_index_or, ⊤}
-use Rattle.std.specs.List.{AllZip}
+use Rattle.std.specs.Prelude.{◌≡◌, ◌⊎◌, ◌<◌, ◌≤◌, ◌+◌, ◌^◌, ℕ, suc, Bool, true, false, not, ◌&&◌, cond, Option, Some, None, is_some, is_none, List, [], ◌∷◌, ◌++◌, length, map, slice_get, slice_index_or, ⊤}
+use Rattle.std.specs.List.{AllZip, AllByRecursion}
 use Rattle.layout_roles.specs.declared.layout.Layout.{Layout}
 use Rattle.layout_roles.specs.declared.cut.Cut.{Cut}
 use Rattle.table_schema.specs.Words.{Words}
@@ -86,9 +86,9 @@ module _ {R : Type 0} where
   abbrev pub AreGone : List (Slot R) → ℕ → Type 0
   AreGone slots n = (i : ℕ) (slot : Slot R) → i < n → slice_get slots i ≡ Some slot → is_waiting slot ≡ false
 
-  -- the first n messages are lost
-  abbrev pub AreLost : List (Slot R) → ℕ → Type 0
-  AreLost slots n = (i : ℕ) (slot : Slot R) → i < n → slice_get slots i ≡ Some slot → slot.envelope ≡ None
+  -- the message is lost
+  abbrev pub IsOver : Slot R → Type 0
+  IsOver slot = slot.envelope ≡ None
 
   -- the first message that waits stands here, or none waits and this is the end
   pub record IsFirst (slots : List (Slot R)) (n : ℕ) : Type 0 where
@@ -96,16 +96,26 @@ module _ {R : Type 0} where
     pub before : AreGone slots n
     pub here : (slot : Slot R) → slice_get slots n ≡ Some slot → is_waiting slot ≡ true
 
-  -- the post holds all messages, those before `kept` lost, with their marks and bytes
+  -- the post counts all messages and their bytes, and has the slots of all but the first ones, which are lost; those had the slots `over`
   pub record IsPost (s : Words R) (post : Post R) (messages : List (Sent R Layout)) (marks : List Mark) : Type 0 where
-    pub marks_are : map mark_of post.slots.items ≡ marks
-    pub held : AllZip IsHeld post.slots.items messages
+    pub over : List (Slot R)
+    pub lost : AllByRecursion IsOver over
+    pub marks_are : map mark_of (over ++ post.slots.items) ≡ marks
+    pub held : AllZip IsHeld (over ++ post.slots.items) messages
     pub first : IsFirst post.slots.items post.first
-    pub kept : post.kept ≤ post.first
-    pub lost : AreLost post.slots.items post.kept
+    pub sent : length messages ≡ post.sent
     pub bytes : sent_bytes s messages ≡ Some post.bytes
     pub few : length messages < 2 ^ 64
     pub small : post.bytes < 2 ^ 64
+
+  -- the slot of the message with this number stands here; the slots are those of the last messages
+  pub record IsPlace (post : Post R) (number place : ℕ) : Type 0 where
+    pub within : place < length post.slots.items
+    pub at : number + length post.slots.items ≡ suc (post.sent + place)
+
+  -- the message with this number was never sent, or is one of those before all slots
+  abbrev pub HasNoPlace : Post R → ℕ → Type 0
+  HasNoPlace post number = (post.sent < number) ⊎ (number + length post.slots.items ≤ post.sent)
 
   -- messages that were just sent
   abbrev pub not_yet : List (Sent R Layout) → List Mark

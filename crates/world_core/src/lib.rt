@@ -8,8 +8,9 @@
 //! relation too, and the rest reads the world. Rows are known by their schema alone.
 //!
 //! Inside are the parts, each with a relation of its own: `Nodes` (a node that nothing happened to takes no room), `Post`
-//! (message m at place m - 1, the least undelivered one known at once), `Clocks` and `Requests`; `staged` changes the
-//! staged roles, `decide` computes a layout. A step costs what its node's part costs, and constant time per message.
+//! (a slot for each message but those that are over, the least undelivered one known at once), `Clocks` and `Requests`;
+//! `staged` changes the staged roles, `decide` computes a layout. A step costs what its node's part costs, and constant
+//! time per message.
 //!
 //! The rows of a store phase come each with the block that it needs, and no other. So every node has the blocks of its
 //! rows, and every message that was ever sent has them beside its rows (`AllStocked`), which each step keeps.

@@ -1,18 +1,19 @@
 //! Every message that was ever sent, and what became of it.
-ghost use Rattle.std.specs.Prelude.{◌≡◌, ◌⊎◌, ◌<◌, ◌≤◌, ◌^◌, ℕ, suc, Some, None, [], ◌∷◌, ◌++◌, false, true, length, map, OnOk, IfOk, IfErr};
+ghost use Rattle.std.specs.Prelude.{◌≡◌, ◌⊎◌, ◌<◌, ◌≤◌, ◌^◌, ℕ, suc, Some, None, [], ◌∷◌, ◌++◌, false, true, length, map, drop, OnOk, IfOk, IfErr, IfSome, IfNone};
 ghost use Rattle.crdt_core.specs.Outcomes.{WantOr};
 ghost use Rattle.layout_roles.specs.declared.layout.Layout.{Layout};
 ghost use Rattle.table_schema.specs.Words.{Words};
 ghost use Rattle.cluster_machine.specs.World.{Sent, Mark, numbered, first_waiting, sent_bytes, forgot};
 ghost use Rattle.cluster_machine.specs.Step.{marked};
 ghost use Rattle.cluster_machine.specs.Fits.{IsWord};
-ghost use Rattle.world_core.specs.Parts.{IsPost, AreSent, IsSent, IsFound, IsMissing, AreGone, IsFirst, packet_bytes, not_yet, lines_from};
+ghost use Rattle.world_core.specs.Parts.{IsPost, IsPlace, HasNoPlace, AreSent, IsSent, IsFound, IsMissing, AreGone, IsFirst, forgotten, packet_bytes, not_yet, lines_from};
 
 use crate::lines::kind;
 use cluster_machine::applied::{Line, Refusal};
 use crdt_core::{List, Memory};
 use node_core::{Envelope, Packet};
 use std::alloc::Global;
+use std::collections::VecDeque;
 use table_schema::Schema;
 use wire_messages::size;
 
@@ -43,13 +44,15 @@ impl<R: Drop> Slot<R> {
     }
 }
 
-/// Every message that was ever sent: message m at place m - 1. All before the place `first` are delivered or lost, and
-/// all before `kept` are lost.
+/// Every message that was ever sent. Those that are over, lost and before all that wait, are only counted.
 #[derive(Drop)]
 pub struct Post<R> {
-    pub slots: Vec<Slot<R>>,
+    /// How many messages were sent.
+    pub sent: u64,
+    /// The last of them, in order.
+    pub slots: VecDeque<Slot<R>>,
+    /// The place of the first slot whose message waits, or how many slots there are.
     pub first: usize,
-    pub kept: usize,
     /// The sizes of all messages.
     pub bytes: u64,
 }
@@ -81,9 +84,9 @@ impl<R: Drop> Post<R> {
         ensures { (s : Words R) → IsPost s result [] [] }
     {
         Post {
-            slots: Vec::new(alloc),
+            sent: 0,
+            slots: VecDeque::new(alloc),
             first: 0,
-            kept: 0,
             bytes: 0,
         }
     }
@@ -92,7 +95,7 @@ impl<R: Drop> Post<R> {
     pub fn sent(&self) -> u64
         ensures { (s : Words R) (messages : List (Sent R Layout)) (marks : List Mark) → IsPost s self.now messages marks → result ≡ length messages }
     {
-        self.slots.len() as u64
+        self.sent
     }
 
     /// The least number of a message that was neither delivered nor lost.
@@ -100,7 +103,22 @@ impl<R: Drop> Post<R> {
         ensures { (s : Words R) (messages : List (Sent R Layout)) (marks : List Mark) → IsPost s self.now messages marks → result ≡ first_waiting 1 marks }
     {
         if self.first < self.slots.len() {
-            Some(self.first as u64 + 1)
+            let later = self.slots.len() - self.first - 1;
+            self.sent.checked_sub(later as u64)
+        } else {
+            None
+        }
+    }
+
+    // The place of the message's slot. None where it has none: it was never sent, or is over.
+    fn place(&self, number: u64) -> Option<usize>
+        ensures found { IfSome result (λ place. IsPlace self.now number place) }
+        ensures none { IfNone result (HasNoPlace self.now number) }
+    {
+        let later = self.sent.checked_sub(number)?;
+        let len = self.slots.len() as u64;
+        if later < len {
+            Some((len - 1 - later) as usize)
         } else {
             None
         }
@@ -111,10 +129,13 @@ impl<R: Drop> Post<R> {
         ensures found { IfOk result (λ e. (s : Words R) (messages : List (Sent R Layout)) (marks : List Mark) → IsPost s self.now messages marks → IsFound number messages marks e.now) }
         ensures missing { IfErr result (λ why. (s : Words R) (messages : List (Sent R Layout)) (marks : List Mark) → IsPost s self.now messages marks → IsMissing number messages marks why) }
     {
-        if number < 1 || number > self.slots.len() as u64 {
+        if number < 1 || number > self.sent {
             return Err(Refusal::NoSuchMessage);
         }
-        match &self.slots[(number - 1) as usize].envelope {
+        let Some(place) = self.place(number) else {
+            return Err(Refusal::Lost);
+        };
+        match &self.slots[place].envelope {
             Some(envelope) => Ok(envelope),
             None => Err(Refusal::Lost),
         }
@@ -125,10 +146,10 @@ impl<R: Drop> Post<R> {
         ensures { (s : Words R) (messages : List (Sent R Layout)) (marks : List Mark) (mark : Mark) → IsPost s self.old messages marks → numbered marks number ≡ Some mark → mark.is_lost ≡ false →
             IsPost s self.new messages (marked marks (Some (number, record { is_delivered = true; is_lost = false }))) }
     {
-        if number < 1 || number > self.slots.len() as u64 {
+        let Some(place) = self.place(number) else {
             return;
-        }
-        self.slots[(number - 1) as usize].is_delivered = true;
+        };
+        self.slots[place].is_delivered = true;
         self.first = next_waiting(&self.slots, self.first);
     }
 
@@ -137,23 +158,23 @@ impl<R: Drop> Post<R> {
         ensures { (s : Words R) (messages : List (Sent R Layout)) (marks : List Mark) (mark : Mark) → IsPost s self.old messages marks → numbered marks number ≡ Some mark →
             IsPost s self.new messages (marked marks (Some (number, record { is_delivered = false; is_lost = true }))) }
     {
-        if number < 1 || number > self.slots.len() as u64 {
+        let Some(place) = self.place(number) else {
             return;
-        }
-        let slot = &mut self.slots[(number - 1) as usize];
+        };
+        let slot = &mut self.slots[place];
         slot.envelope = None;
         slot.is_delivered = false;
         self.first = next_waiting(&self.slots, self.first);
     }
 
-    /// A delivered message counts as lost from here on, and its room is given back.
+    /// A delivered message counts as lost from here on, and its room is given back; all before the first that waits are
+    /// over, and take none.
     pub fn forget_delivered(&mut self)
         ensures { (s : Words R) (messages : List (Sent R Layout)) (marks : List Mark) → IsPost s self.old messages marks → IsPost s self.new messages (map forgot marks) }
     {
-        for place in self.kept..self.slots.len() {
-            self.slots[place].forget();
-        }
-        self.kept = self.first;
+        drop_front(&mut self.slots, self.first);
+        forget_each(&mut self.slots);
+        self.first = 0;
     }
 }
 
@@ -183,33 +204,37 @@ fn put<S: Schema>(
 ) -> Result<(), Memory>
     ensures sent { OnOk result ((messages : List (Sent S.Row Layout)) (marks : List Mark) (m : Sent S.Row Layout) → IsPost S.words post.old messages marks → IsSent envelope m →
         IsPost S.words post.new (messages ++ m ∷ []) (marks ++ not_yet (m ∷ []))) }
-    ensures told { OnOk result (lines.new ≡ lines.old ++ lines_from (suc (length post.old.slots.items)) (envelope ∷ [])) }
-    ensures more { OnOk result (length post.new.slots.items ≡ suc (length post.old.slots.items)) }
+    ensures told { OnOk result (lines.new ≡ lines.old ++ lines_from (suc post.old.sent) (envelope ∷ [])) }
+    ensures more { OnOk result (post.new.sent ≡ suc post.old.sent) }
     ensures causes { WantOr result ((messages : List (Sent S.Row Layout)) (marks : List Mark) (m : Sent S.Row Layout) →
         IsPost S.words post.old messages marks → IsSent envelope m → IsWord (sent_bytes S.words (messages ++ m ∷ [])) → ⊥) }
 {
+    let Some(number) = post.sent.checked_add(1) else {
+        return Err(Memory::Full);
+    };
     let size = packet_size::<S>(&envelope.packet)?;
     let Some(bytes) = post.bytes.checked_add(size) else {
         return Err(Memory::Full);
     };
     let line = Line::Sent {
-        number: post.slots.len() as u64 + 1,
+        number,
         kind: kind(&envelope.packet),
         from: envelope.from,
         to: envelope.to,
     };
     lines.push(line)?;
-    post.slots.push(Slot {
+    post.slots.push_back(Slot {
         envelope: Some(envelope),
         is_delivered: false,
     })?;
+    post.sent = number;
     post.bytes = bytes;
     Ok(())
 }
 
 /// The first place from `from` on whose message waits, where no one before it does.
-fn next_waiting<R: Drop>(slots: &[Slot<R>], from: usize) -> usize
-    ensures first { from ≤ length slots.now → AreGone slots.now from → IsFirst slots.now result }
+fn next_waiting<R: Drop>(slots: &VecDeque<Slot<R>>, from: usize) -> usize
+    ensures first { from ≤ length slots.now.items → AreGone slots.now.items from → IsFirst slots.now.items result }
     ensures later { from ≤ result }
 {
     let mut first = from;
@@ -217,4 +242,22 @@ fn next_waiting<R: Drop>(slots: &[Slot<R>], from: usize) -> usize
         first += 1;
     }
     first
+}
+
+/// The first slots, so many, are dropped.
+fn drop_front<R: Drop>(slots: &mut VecDeque<Slot<R>>, count: usize)
+    ensures { slots.new.items ≡ drop count slots.old.items }
+{
+    for _ in 0..count {
+        slots.pop_front();
+    }
+}
+
+/// Every delivered message is lost from here on.
+fn forget_each<R: Drop>(slots: &mut VecDeque<Slot<R>>)
+    ensures { slots.new.items ≡ map forgotten slots.old.items }
+{
+    for place in 0..slots.len() {
+        slots[place].forget();
+    }
 }

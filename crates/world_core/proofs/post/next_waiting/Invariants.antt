@@ -4,10 +4,10 @@ use Rattle.world_core.proofs.post.next_waiting.Given as goal
 
 abbrev pub invariant-loop-first : goal.invariant-loop-first
 invariant-loop-first g l = record {
-  within : l.from ≤ length l.slots → l.first ≤ length l.slots;
-  before : AreGone l.slots l.from → AreGone l.slots l.first;
+  within : l.from ≤ length l.slots.items → l.first ≤ length l.slots.items;
+  before : AreGone l.slots.items l.from → AreGone l.slots.items l.first;
   later : l.from ≤ l.first;
 }
 
 abbrev pub decreases-loop-first : goal.decreases-loop-first
-decreases-loop-first g l = length l.slots - l.first
+decreases-loop-first g l = length l.slots.items - l.first

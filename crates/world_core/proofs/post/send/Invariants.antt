@@ -7,6 +7,6 @@ abbrev pub invariant-loop-envelope : goal.invariant-loop-envelope
 invariant-loop-envelope g l = record {
   rest : l.yielded ++ l.envelope-iterator.rest.items ≡ l.fn.envelopes.items;
   sent : Sends g.S.Schema.words l.fn.post l.post l.yielded;
-  told : l.lines ≡ l.fn.lines ++ lines_from (suc (length l.fn.post.slots.items)) l.yielded;
-  long : length l.post.slots.items ≡ length l.fn.post.slots.items + length l.yielded;
+  told : l.lines ≡ l.fn.lines ++ lines_from (suc l.fn.post.sent) l.yielded;
+  many : l.post.sent ≡ l.fn.post.sent + length l.yielded;
 }
