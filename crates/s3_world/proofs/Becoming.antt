@@ -1,12 +1,12 @@
 -- A store whose world changed without a step, and a drain that delivers all messages.
 use Rattle.std.proofs.Common.{◌≡◌, ℕ, ◌^◌, ◌-◌, [], ◌++◌, length, Result, Ok, Err, refl, sym, ap, ◌∙◌, subst, append-nil}
-use Rattle.std.specs.Prelude.{map, OnOk, OnErr}
-use Rattle.std.specs.List.{AllByRecursion}
+use Rattle.std.specs.Prelude.{OnOk, OnErr}
 use Rattle.crdt_core.specs.declared.memory.Memory.{Memory}
 use Rattle.crdt_rows.specs.declared.any_row.AnyRow.{AnyRow}
 use Rattle.crdt_rows.specs.AnyRow.{any_join}
 use Rattle.object_schema.specs.Schema.{words}
 use Rattle.layout_roles.specs.declared.layout.Layout.{Layout}
+use Rattle.cluster_machine.specs.World.{numbered}
 use Rattle.cluster_machine.specs.Worlds.{FitAll, does, installed}
 use Rattle.store_model.specs.declared.event.Told.{Told}
 use Rattle.store_model.specs.Run.{World, Moving, State, silent, drains}
@@ -14,10 +14,9 @@ use Rattle.store_model.specs.Acts.{moves, installs, drain, all_messages, endings
 use Rattle.store_model.specs.Turns.{FitsOutcome}
 use Rattle.world_core.specs.declared.report.Report.{Report}
 use Rattle.world_core.specs.Stands.{PlaysSo, Turns}
-use Rattle.s3_world.specs.declared.asked.Asked.{Asked}
 use Rattle.s3_world.specs.declared.world.S3World.{S3World}
-use Rattle.s3_world.specs.Driven.{known, IsSized}
-use Rattle.s3_world.specs.Reads.{Handed, nothing_handed, AreRead}
+use Rattle.s3_world.specs.Driven.{known, kept, IsSized}
+use Rattle.s3_world.specs.Reads.{Handed, nothing_handed, asked_at, flow_in, AreRead}
 use Rattle.s3_world.specs.Stands.{Tells, Holds, Becomes, Carries, Keeps, Plays, Overflows}
 use Rattle.s3_world.proofs.Counts.{OpensNone, same_count}
 use Rattle.s3_world.proofs.Reading.{reads_moved}
@@ -33,11 +32,11 @@ module _ (old new : S3World) (buckets : new.buckets ≡ old.buckets) (block : ne
     world = turns s.world d.world;
     buckets = buckets ∙ d.buckets;
     block = block ∙ d.block;
-    requests = ap (map known) requests ∙ d.requests;
+    requests = λ q. subst (λ rs. known (asked_at rs q) ≡ kept (numbered s.asked q)) (sym requests) (d.requests q);
     ends = ends ∙ d.ends;
     history = ap (λ h. h.0) history ∙ d.history;
     sized = d.sized;
-    flows = subst (AllByRecursion (λ (a : Asked). IsSized a.flow)) (sym requests) d.flows;
+    flows = subst (λ rs. (q : ℕ) → IsSized (flow_in (asked_at rs q))) (sym requests) d.flows;
     reads =
         let t : State = record s { world = f s.world } in
         subst (λ rs. AreRead given rs t) (sym requests) (reads_moved given old.driver.requests s t.world s.buckets s.block s.history (count s.world) d.reads);
@@ -63,11 +62,11 @@ module _ (old new : S3World) (buckets : new.buckets ≡ old.buckets) (block : ne
           world = x.stands;
           buckets = buckets ∙ d.buckets;
           block = block ∙ d.block;
-          requests = ap (map known) requests ∙ d.requests;
+          requests = λ q. subst (λ rs. known (asked_at rs q) ≡ kept (numbered s.asked q)) (sym requests) (d.requests q);
           ends = ends ∙ d.ends;
           history = ap (λ h. h.0) history ∙ (d.history ∙ (sym (append-nil s.history) ∙ ap (λ rs. s.history ++ rs) (sym (none s.world))));
           sized = d.sized;
-          flows = subst (AllByRecursion (λ (a : Asked). IsSized a.flow)) (sym requests) d.flows;
+          flows = subst (λ rs. (q : ℕ) → IsSized (flow_in (asked_at rs q))) (sym requests) d.flows;
           reads = subst (λ rs. AreRead nothing_handed rs t) (sym requests) (reads_moved nothing_handed old.driver.requests s t.world s.buckets s.block t.history (same_count s.world (f s.world) (opens s.world)) d.reads);
         };
         tells = subst (λ (t : Told). Tells t (acted s (moves (f s.world)))) (sym is) (record { refused = x.tells.refused; words = x.tells.words; lines = x.tells.lines });

@@ -1,7 +1,6 @@
 -- A delivery: a step of the world, and then what the request does whose phase ended.
 use Rattle.std.proofs.Common.{◌≡◌, ℕ, Bool, Some, List, [], ◌∷◌, ◌++◌, sym, ap, ◌∙◌, subst}
 use Rattle.std.specs.Prelude.{map, slice_get}
-use Rattle.std.specs.List.{AllByRecursion}
 use Rattle.crdt_rows.specs.declared.any_row.AnyRow.{AnyRow}
 use Rattle.crdt_rows.specs.AnyRow.{any_join}
 use Rattle.object_schema.specs.Schema.{words}
@@ -14,10 +13,9 @@ use Rattle.store_model.specs.Run.{State, Outcome, plainly, effect, doing, follow
 use Rattle.store_model.specs.Turns.{FitsOutcome}
 use Rattle.world_core.specs.declared.report.Report.{Report}
 use Rattle.world_core.specs.Stands.{Steps, ended}
-use Rattle.s3_world.specs.declared.asked.Asked.{Asked}
 use Rattle.s3_world.specs.declared.driver.Driver.{Driver}
-use Rattle.s3_world.specs.Driven.{known, IsSized, IsHanding, HasRun, DoesHeard, PlaysHeard, Overflows}
-use Rattle.s3_world.specs.Reads.{Handed, AreRead}
+use Rattle.s3_world.specs.Driven.{known, kept, IsSized, IsHanding, HasRun, DoesHeard, PlaysHeard, Overflows}
+use Rattle.s3_world.specs.Reads.{Handed, asked_at, flow_in, AreRead}
 use Rattle.s3_world.proofs.Counts.{same_count}
 use Rattle.s3_world.proofs.Heard.{heard_when, when_heard}
 use Rattle.s3_world.proofs.Reading.{reads_moved}
@@ -27,10 +25,10 @@ module _ {F : Type 0} (old mid : Driver F) (m : ℕ) (report : Report AnyRow) (s
   is_next : {given : Handed} (s : State) → IsHanding given old s → IsHanding given mid (doing s (plainly (Deliver m)))
   is_next {given} s d = record {
     world = (steps s.world d.world).does.stands;
-    requests = ap (map known) requests ∙ d.requests;
+    requests = λ q. subst (λ rs. known (asked_at rs q) ≡ kept (numbered s.asked q)) (sym requests) (d.requests q);
     ends = ends ∙ d.ends;
     history = ap (λ h. h.0) history ∙ d.history;
-    flows = subst (AllByRecursion (λ (a : Asked). IsSized a.flow)) (sym requests) d.flows;
+    flows = subst (λ rs. (q : ℕ) → IsSized (flow_in (asked_at rs q))) (sym requests) d.flows;
     reads =
         let t : State = doing s (plainly (Deliver m)) in
         subst (λ rs. AreRead given rs t) (sym requests) (reads_moved given old.requests s t.world s.buckets s.block s.history (same_count s.world (plainly (Deliver m)) tt) d.reads);

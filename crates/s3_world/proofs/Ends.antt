@@ -1,12 +1,9 @@
 -- How requests ended, by their places in the list of ends.
-use Rattle.std.proofs.Common.{◌≡◌, ℕ, suc, ◌+◌, ◌<◌, Bool, true, false, cond, ◌==◌, Option, Some, None, List, [], ◌∷◌, length, refl, sym, ◌∙◌, ap, subst, arith, position, ◌⊎◌}
-use Rattle.std.specs.Prelude.{option_map, slice_get, slice_set, map, remove}
-use Rattle.std.proofs.lemmas.List.{map-set, length-map}
-use Rattle.std.proofs.lemmas.Option.{slice_get-map}
+use Rattle.std.proofs.Common.{◌≡◌, ℕ, suc, ◌+◌, ◌<◌, Bool, true, false, cond, ◌==◌, Option, Some, None, List, [], ◌∷◌, length, refl, sym, ◌∙◌, ap, subst, arith, position}
+use Rattle.std.specs.Prelude.{option_map, slice_get, remove}
 use Rattle.std.specs.List.{position_from}
 use Rattle.std.proofs.lemmas.Iterator.Adapters.{position_from-zero}
 use Rattle.flow_model.specs.declared.flow.FlowEnd.{FlowEnd}
-use Rattle.std.specs.List.{AllByRecursion}
 use Rattle.crdt_rows.specs.AnyRow.{any_join}
 use Rattle.object_schema.specs.Schema.{words}
 use Rattle.cluster_machine.specs.World.{numbered}
@@ -14,12 +11,11 @@ use Rattle.store_model.specs.Run.{State, Asked as Waiting}
 use Rattle.store_model.specs.Gets.{body_of}
 use Rattle.store_model.specs.Acts.{takes, acted, end_of, without_end}
 use Rattle.world_core.specs.Stands.{StandsFor}
-use Rattle.s3_world.specs.declared.asked.Asked.{Asked}
 use Rattle.s3_world.specs.declared.driver.Driver.{Driver}
-use Rattle.s3_world.specs.Driven.{Known, known, kept, place_in, IsSized, IsHanding, IsDriven, HasRun, Becomes}
-use Rattle.s3_world.specs.Reads.{Handed, of, nothing_handed, IsLeft, IsOver, AreRead, with_first}
-use Rattle.s3_world.proofs.Places.{waiting_at, get_none, set_same, all_set, all_get}
-use Rattle.s3_world.proofs.Overs.{ended_is_over, without_none}
+use Rattle.s3_world.specs.Driven.{known_with, known, kept, place_in, IsSized, IsHanding, IsDriven, HasRun, Becomes}
+use Rattle.s3_world.specs.Reads.{Handed, of, asked_at, Writes, flow_in, blocks_in, IsLeft, IsOver, with_first}
+use Rattle.s3_world.proofs.Overs.{by_number, ended_is_over}
+use Rattle.s3_world.proofs.Kept.{all_written}
 use Rattle.s3_world.proofs.Handing.{left_with_end, some_left_with_end, end_taken}
 
 module _ (q : ℕ) where
@@ -70,55 +66,36 @@ module _ {F : Type 0} (old : Driver F) (q : ℕ) where
   pub end_at : (i : ℕ) (e : ℕ × FlowEnd) → Some i ≡ place_in old.ends q → slice_get old.ends i ≡ Some e → (s : State) → IsDriven old s → Some e.1 ≡ end_of s.ends q
   end_at i e at there s d = sym (ap (λ es. end_of es q) (sym d.ends) ∙ ((placed q old.ends (Some i) at).1 ∙ ap (option_map (λ (e : ℕ × FlowEnd). e.1)) there))
 
-  -- the number of no request
-  pub nobody_there : (q ≡ 0) ⊎ (length old.requests < q) → (s : State) → IsDriven old s → numbered s.asked q ≡ None
-  nobody_there none s d =
-      let same : length old.requests ≡ length (map kept s.asked) = sym (length-map old.requests known) ∙ ap length d.requests in
-      get_none s.asked q (subst (λ n. (q ≡ 0) ⊎ (n < q)) same none)
-
-  none_ended : (q ≡ 0) ⊎ (length old.requests < q) → (s : State) (d : IsDriven old s) (o : Option FlowEnd) → end_of s.ends q ≡ o → o ≡ None
-  none_ended none s d None is = refl
-  none_ended none s d (Some end) is = absurd (subst IsOver (nobody_there none s d) (ended_is_over s.asked s.ends q end d.reads.over is))
-
-  pub nobody_ended : (q ≡ 0) ⊎ (length old.requests < q) → (s : State) → IsDriven old s → end_of s.ends q ≡ None
-  nobody_ended none s d = none_ended none s d (end_of s.ends q) refl
-
-  pub nobody_taken : (q ≡ 0) ⊎ (length old.requests < q) → Becomes old old (λ s. acted s (takes q))
-  nobody_taken none s d = subst (λ es. IsDriven old (record s { ends = es })) (sym (without_none s.ends q (nobody_ended none s d))) d
-
   -- the end at its place
-  module _ (i : ℕ) (e : ℕ × FlowEnd) (at : Some i ≡ place_in old.ends q) (there : slice_get old.ends i ≡ Some e) (k : ℕ) (place : k + 1 ≡ q) (a : Asked) (code_at : slice_get old.requests k ≡ Some a) where
+  module _ (i : ℕ) (e : ℕ × FlowEnd) (at : Some i ≡ place_in old.ends q) (there : slice_get old.ends i ≡ Some e) where
     ended : {given : Handed} (s : State) → IsHanding given old s → end_of s.ends q ≡ Some e.1
     ended s d = ap (λ es. end_of es q) (sym d.ends) ∙ ((placed q old.ends (Some i) at).1 ∙ ap (option_map (λ (e : ℕ × FlowEnd). e.1)) there)
 
-    abbrev model : {given : Handed} (s : State) → IsHanding given old s → (m : Waiting) × (slice_get s.asked k ≡ Some m) × (kept m ≡ known a)
-    model s d = waiting_at old s d k a code_at
-
-    same_flow : {given : Handed} (s : State) (d : IsHanding given old s) → a.flow ≡ (model s d).0.flow
-    same_flow s d = ap (λ (x : Known). x.flow) (sym (model s d).2)
-
     -- some bytes were handed out
-    pub some_left : HasRun old → (bytes : List ℕ) × IsLeft a.blocks bytes (body_of (Some e.1))
-    some_left h = some_left_with_end old.requests h.0 k q place a code_at (model h.0 h.1).0 (model h.0 h.1).1 (same_flow h.0 h.1) e.1 (ended h.0 h.1) h.1.reads
+    pub some_left : HasRun old → (bytes : List ℕ) × IsLeft (blocks_in (asked_at old.requests q)) bytes (body_of (Some e.1))
+    some_left h = some_left_with_end old.requests old.requests h.0 q e.1 (ended h.0 h.1) h.1.reads
 
     -- what is told with the bytes that were handed out
-    pub taken_with : (told : FlowEnd) → ((bytes : List ℕ) → IsLeft a.blocks bytes (body_of (Some e.1)) → with_first bytes (Some told) ≡ Some e.1) →
+    pub taken_with : (told : FlowEnd) → ((bytes : List ℕ) → IsLeft (blocks_in (asked_at old.requests q)) bytes (body_of (Some e.1)) → with_first bytes (Some told) ≡ Some e.1) →
         (s : State) (bytes : List ℕ) → IsHanding (of q bytes) old s → with_first bytes (Some told) ≡ end_of s.ends q
-    taken_with told whole s bytes d =
-        whole bytes (left_with_end old.requests s k q place a code_at (model s d).0 (model s d).1 (same_flow s d) e.1 (ended s d) d.reads bytes d.reads.handed) ∙ sym (ended s d)
+    taken_with told whole s bytes d = whole bytes (left_with_end old.requests old.requests s q e.1 (ended s d) d.reads bytes d.reads.handed) ∙ sym (ended s d)
+
+    -- nothing is known of it
+    over_kept : (o : Option Waiting) → IsOver o → None ≡ kept o
+    over_kept None over = absurd over
+    over_kept (Some m) over = sym (ap (known_with m.node m.kind) over)
 
     -- the ends without it
-    pub left_there : (new : Driver F) → new.world ≡ old.world → new.requests ≡ slice_set old.requests k (record a { found = None; blocks = None }) → new.ends ≡ remove old.ends i → new.history ≡ old.history →
-        Becomes old new (λ s. acted s (takes q))
-    left_there new world requests ends history s d =
-        let t : State = record s { ends = without_end s.ends q } in
-        let now : Asked = record a { found = None; blocks = None } in
-        let same : map known (slice_set old.requests k now) ≡ map known old.requests = map-set known old.requests k now ∙ set_same (map known old.requests) k (known a) (slice_get-map known old.requests k ∙ ap (option_map known) code_at) in
+    pub left_there : (new : Driver F) → new.world ≡ old.world → Writes old.requests new.requests q None → new.ends ≡ remove old.ends i → new.history ≡ old.history → Becomes old new (λ s. acted s (takes q))
+    left_there new world done ends history s d =
+        let over : IsOver (numbered s.asked q) = ended_is_over s.asked s.ends q e.1 d.reads.over (ended s d) in
         record {
           world = subst (λ w. StandsFor any_join words w s.world) (sym world) d.world;
-          requests = ap (map known) requests ∙ (same ∙ d.requests);
+          requests = λ p. by_number q p (known (asked_at new.requests p) ≡ kept (numbered s.asked p))
+              (λ same. subst (λ p. known (asked_at new.requests p) ≡ kept (numbered s.asked p)) same (ap known done.here ∙ over_kept (numbered s.asked q) over))
+              (λ other. ap known (done.others p other) ∙ d.requests p);
           ends = ends ∙ (sym (placed q old.ends (Some i) at).2 ∙ ap (λ es. without_end es q) d.ends);
           history = ap (λ h. h.0) history ∙ d.history;
-          flows = subst (AllByRecursion (λ (a : Asked). IsSized a.flow)) (sym requests) (all_set (λ (a : Asked). IsSized a.flow) old.requests k now d.flows (all_get (λ (a : Asked). IsSized a.flow) old.requests k a d.flows code_at));
-          reads = subst (λ rs. AreRead nothing_handed rs t) (sym requests) (end_taken old.requests s k q place a code_at (model s d).0 (model s d).1 (same_flow s d) e.1 (ended s d) d.reads);
+          flows = all_written old.requests new.requests q None done (λ o. IsSized (flow_in o)) d.flows tt;
+          reads = end_taken old.requests new.requests s q e.1 (ended s d) d.reads done;
         }

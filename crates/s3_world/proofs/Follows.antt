@@ -1,8 +1,8 @@
 -- What a request does whose phase ended, case by case.
-use Rattle.std.proofs.Common.{◌≡◌, ℕ, ◌+◌, ◌-◌, ◌^◌, ◌<◌, Bool, true, false, Option, Some, None, Result, Ok, Err, IfOk, List, [], ◌∷◌, ◌++◌, length, refl, sym, ap, ◌∙◌, subst, arith, ◌⊎◌, inl, inr}
-use Rattle.std.specs.Prelude.{slice_get, slice_set, map}
+use Rattle.std.proofs.Common.{◌≡◌, ℕ, ◌-◌, ◌^◌, ◌<◌, Bool, true, false, Option, Some, None, Result, Ok, Err, IfOk, List, [], ◌∷◌, ◌++◌, length, refl, sym, ap, ◌∙◌, subst, arith, ◌⊎◌, inl, inr}
+use Rattle.std.specs.Prelude.{slice_set}
+use Rattle.std.specs.BTreeMap.{BTreeMap}
 use Rattle.std.specs.List.{AllByRecursion}
-use Rattle.std.proofs.lemmas.List.{map-set, length-map}
 use Rattle.crdt_core.specs.declared.memory.Memory.{Memory}
 use Rattle.crdt_rows.specs.declared.version.Version.{Version}
 use Rattle.crdt_rows.specs.declared.any_row.AnyRow.{AnyRow}
@@ -36,14 +36,15 @@ use Rattle.world_core.specs.declared.report.Report.{Report}
 use Rattle.world_core.specs.Stands.{StandsFor, Steps, Overflows as WorldOverflows}
 use Rattle.s3_world.specs.declared.asked.Asked.{Asked}
 use Rattle.s3_world.specs.declared.driver.Driver.{Driver}
-use Rattle.s3_world.specs.Driven.{Known, known, kept, IsSized, IsHanding, IsDriven, HasRun, DoesHeard, PlaysHeard, Overflows, Finishes, Begins}
-use Rattle.s3_world.specs.Reads.{Handed, heard, after_phase, AreRead}
+use Rattle.s3_world.specs.Driven.{known_with, known, kept, IsSized, IsHanding, IsDriven, HasRun, DoesHeard, PlaysHeard, Overflows, Finishes, Waits, Begins}
+use Rattle.s3_world.specs.Reads.{Handed, asked_at, Writes, flow_in, heard, after_phase, AreRead}
 use Rattle.s3_world.proofs.Counts.{same_count}
 use Rattle.s3_world.proofs.Getting.{flow_then, ends_then}
 use Rattle.s3_world.proofs.Heard.{heard_when, heard_all}
 use Rattle.s3_world.proofs.Reading.{reads_next, whatever}
 use Rattle.s3_world.proofs.Phases.{IsGood, StepIsGood, next_is_good}
-use Rattle.s3_world.proofs.Places.{numbered_place, waiting_at, get_none, get_set, set_twice, set_same, all_set, all_get}
+use Rattle.s3_world.proofs.Forgets.{still}
+use Rattle.s3_world.proofs.Kept.{WaitsToo, written_over, all_written, known_set, waiting_at, over_at}
 
 -- whatever was handed out
 pub as_driven : {F : Type 0} (given : Handed) (driver : Driver F) (s : State) → IsHanding given driver s → IsDriven driver s
@@ -81,58 +82,65 @@ module _ (g : Flow) (does : FlowStep) where
   rests_block block (inl needs) good = let same : StepIsGood block (Need g needs.0) = subst (StepIsGood block) needs.1 good in same
   rests_block block (inr waits) good = let same : StepIsGood block (Wait g) = subst (StepIsGood block) waits good in same
 
--- nobody asked under this number
-pub follow_nobody : {F : Type 0} (aloud : Bool) (old : Driver F) (q : ℕ) (end : PhaseEnd AnyRow) (told : Told) → (q ≡ 0) ⊎ (length old.requests < q) → told ≡ record { refused = None; words = Empty; lines = [] } →
-    PlaysHeard aloud old old told (λ s. follow s q (numbered s.asked q) end)
-follow_nobody aloud old q end told none says given s d =
+-- ---- a request that waits for nothing
+
+-- whatever is known of it
+quiet_by : (s : State) (q : ℕ) (end : PhaseEnd AnyRow) (o : Option Waiting) → numbered s.asked q ≡ o → kept (numbered s.asked q) ≡ None → follow s q o end ≡ silent s
+quiet_by s q end None at none = refl
+quiet_by s q end (Some m) at none = ap (follows s q m end) (over_at s.asked q m at none)
+
+quiet_follow : (s : State) (q : ℕ) (end : PhaseEnd AnyRow) → kept (numbered s.asked q) ≡ None → follow s q (numbered s.asked q) end ≡ silent s
+quiet_follow s q end none = quiet_by s q end (numbered s.asked q) refl none
+
+-- nothing is kept of it
+pub follow_nobody : {F : Type 0} (aloud : Bool) (old : Driver F) (requests : BTreeMap ℕ Asked) → requests ≡ old.requests → (q : ℕ) (end : PhaseEnd AnyRow) (told : Told) → asked_at old.requests q ≡ None → told ≡ record { refused = None; words = Empty; lines = [] } →
+    PlaysHeard aloud old (record old { requests = requests }) told (λ s. follow s q (numbered s.asked q) end)
+follow_nobody aloud old requests same q end told none says given s d =
     let P : Outcome → Type 0 = λ o. DoesHeard given aloud old told s o in
-    let same : length old.requests ≡ length (map kept s.asked) = sym (length-map old.requests known) ∙ ap length d.requests in
-    let nobody : numbered s.asked q ≡ None = get_none s.asked q (subst (λ n. (q ≡ 0) ⊎ (n < q)) same none) in
-    subst P (sym (ap (λ o. follow s q o end) nobody)) (silent_plays aloud old told says given s d)
+    let did : DoesHeard given aloud old told s (follow s q (numbered s.asked q) end) = subst P (sym (quiet_follow s q end (sym (d.requests q) ∙ ap known none))) (silent_plays aloud old told says given s d) in
+    subst (λ rs. DoesHeard given aloud (record old { requests = rs }) told s (follow s q (numbered s.asked q) end)) (sym same) did
 
-module _ {F : Type 0} (aloud : Bool) (old : Driver F) (i q : ℕ) (place : i + 1 ≡ q) (a : Asked) (at : slice_get old.requests i ≡ Some a) (end : PhaseEnd AnyRow) where
-  -- the model's request
-  abbrev waiting : {given : Handed} (s : State) → IsHanding given old s → (m : Waiting) × (slice_get s.asked i ≡ Some m) × (kept m ≡ known a)
-  waiting s d = waiting_at old s d i a at
+-- the state is the same
+pub still_plays : {F : Type 0} (aloud : Bool) (old mid new : Driver F) (told : Told) (f : State → Outcome) → ((given : Handed) (s : State) → IsHanding given mid s → IsHanding given new s) → PlaysHeard aloud old mid told f → PlaysHeard aloud old new told f
+still_plays aloud old mid new told f still plays given s d = let did = plays given s d in record { stands = still given (f s).state did.stands; tells = did.tells; fits = did.fits }
 
-  followed : {given : Handed} (s : State) (d : IsHanding given old s) → follow s q (numbered s.asked q) end ≡ follows s q (waiting s d).0 end a.flow
-  followed s d =
-      let m = waiting s d in
-      ap (λ o. follow s q o end) (numbered_place s.asked i q place ∙ m.1) ∙ ap (λ (x : Known). follows s q m.0 end x.flow) m.2
-
+module _ {F : Type 0} (aloud : Bool) (old : Driver F) (q : ℕ) (a : Asked) (at : asked_at old.requests q ≡ Some a) (end : PhaseEnd AnyRow) where
   -- a request that has ended
-  pub follow_ended : (told : Told) (x : Asked) → a.flow ≡ None → x ≡ after_phase a a.flow end → told ≡ record { refused = None; words = Empty; lines = [] } →
-      PlaysHeard aloud old (record old { requests = slice_set old.requests i x }) told (λ s. follow s q (numbered s.asked q) end)
-  follow_ended told x ended is says given s d =
-      let m = waiting s d in
+  pub follow_ended : (requests : BTreeMap ℕ Asked) (told : Told) (x : Asked) → a.flow ≡ None → x ≡ after_phase a a.flow end → Writes old.requests requests q (Some x) → told ≡ record { refused = None; words = Empty; lines = [] } →
+      PlaysHeard aloud old (record old { requests = requests }) told (λ s. follow s q (numbered s.asked q) end)
+  follow_ended requests told x ended is writes says given s d =
       let here : x ≡ a = is ∙ ap (λ fl. after_phase a fl end) ended in
-      let same : slice_set old.requests i x ≡ old.requests = ap (slice_set old.requests i) here ∙ set_same old.requests i a at in
-      let quiet : DoesHeard given aloud old told s (silent s) = silent_plays aloud old told says given s d in
-      let whole : DoesHeard given aloud old told s (follow s q (numbered s.asked q) end) = subst (λ (o : Outcome). DoesHeard given aloud old told s o) (sym (followed s d ∙ ap (follows s q m.0 end) ended)) quiet in
-      let P : List Asked → Type 0 = λ rs. DoesHeard given aloud (record old { requests = rs }) told s (follow s q (numbered s.asked q) end) in
-      subst P (sym same) whole
+      let same : IsHanding given (record old { requests = requests }) s = still old requests q a at (subst (λ b. Writes old.requests requests q (Some b)) here writes) given s d in
+      let P : Outcome → Type 0 = λ o. DoesHeard given aloud (record old { requests = requests }) told s o in
+      subst P (sym (quiet_follow s q end (sym (d.requests q) ∙ ap known at ∙ ap (known_with a.node a.kind) ended))) (silent_plays aloud (record old { requests = requests }) told says given s same)
 
   module _ (f : Flow) (going : a.flow ≡ Some f) where
     pub sized : HasRun old → 0 < f.block
-    sized has = subst IsSized going (all_get (λ (x : Asked). IsSized x.flow) old.requests i a has.1.flows at)
+    sized has = subst IsSized (ap flow_in at ∙ going) (has.1.flows q)
+
+    -- the model's request
+    abbrev waiting : {given : Handed} (s : State) → IsHanding given old s → WaitsToo s.asked q a f
+    waiting s d = waiting_at old s d q a f at going
 
     abbrev seen : State → State
     seen s = record s { saw = record { request = q; end = end } ∷ s.saw }
 
     -- what it draws
     abbrev drawn : {given : Handed} (s : State) → IsHanding given old s → List Draw
-    drawn s d = draws_of s q f.block f.stage end (clock s.world (waiting s d).0.node)
+    drawn s d = draws_of s q f.block f.stage end (clock s.world (waiting s d).request.node)
 
     module _ (now : ℕ) (is_now : (w : Model AnyRow) → StandsFor any_join words old.world w → now ≡ clock w a.node) where
-      time : {given : Handed} (s : State) (d : IsHanding given old s) → clock s.world (waiting s d).0.node ≡ now
-      time s d = ap (λ (x : Known). clock s.world x.node) (waiting s d).2 ∙ sym (is_now s.world d.world)
+      time : {given : Handed} (s : State) (d : IsHanding given old s) → clock s.world (waiting s d).request.node ≡ now
+      time s d = ap (clock s.world) (waiting s d).node ∙ sym (is_now s.world d.world)
 
-      taken : {given : Handed} (s : State) (d : IsHanding given old s) → follow s q (numbered s.asked q) end ≡ takes (seen s) q (waiting s d).0 (drawn s d) (flow.next f end now)
-      taken s d = followed s d ∙ ap (follows s q (waiting s d).0 end) going ∙ ap (λ t. takes (seen s) q (waiting s d).0 (drawn s d) (flow.next f end t)) (time s d)
+      taken : {given : Handed} (s : State) (d : IsHanding given old s) → follow s q (numbered s.asked q) end ≡ takes (seen s) q (waiting s d).request (drawn s d) (flow.next f end now)
+      taken s d =
+          let m = waiting s d in
+          ap (λ o. follow s q o end) m.there ∙ ap (follows s q m.request end) m.flow ∙ ap (λ t. takes (seen s) q m.request (drawn s d) (flow.next f end t)) (time s d)
 
       module _ (does : FlowStep) (is : does ≡ flow.next f end now) where
-        done : {given : Handed} (s : State) (d : IsHanding given old s) → follow s q (numbered s.asked q) end ≡ takes (seen s) q (waiting s d).0 (drawn s d) does
-        done s d = taken s d ∙ ap (takes (seen s) q (waiting s d).0 (drawn s d)) (sym is)
+        done : {given : Handed} (s : State) (d : IsHanding given old s) → follow s q (numbered s.asked q) end ≡ takes (seen s) q (waiting s d).request (drawn s d) does
+        done s d = taken s d ∙ ap (takes (seen s) q (waiting s d).request (drawn s d)) (sym is)
 
         good : StepIsGood f.block does
         good = subst (StepIsGood f.block) (sym is) (next_is_good f end now)
@@ -141,46 +149,31 @@ module _ {F : Type 0} (aloud : Bool) (old : Driver F) (i q : ℕ) (place : i + 1
         abbrev pub now_kept : Option Flow → Asked
         now_kept then = record (heard a f.stage end) { flow = then }
 
-        at_place : i ≡ q - 1
-        at_place = omega arith
+        -- of which the same is known as of the model's
+        known_is : {given : Handed} (s : State) (d : IsHanding given old s) (then : Option Flow) → known (Some (now_kept then)) ≡ kept (Some (record (waiting s d).request { flow = then }))
+        known_is s d then = let m = waiting s d in sym (ap (λ n. known_with n m.request.kind then) m.node ∙ ap (λ k. known_with a.node k then) m.kind)
 
-        asked_is : (s : State) (m : Waiting) (then : Option Flow) → slice_set s.asked (q - 1) (record m { flow = then }) ≡ slice_set s.asked i (record m { flow = then })
-        asked_is s m then = ap (λ n. slice_set s.asked n (record m { flow = then })) (sym at_place)
+        module _ (requests : BTreeMap ℕ Asked) (then : Option Flow) (writes : Writes old.requests requests q (Some (now_kept then))) where
+          -- what is known of the requests
+          known_now : {given : Handed} (s : State) (d : IsHanding given old s) → (p : ℕ) → known (asked_at requests p) ≡ kept (numbered (slice_set s.asked (q - 1) (record (waiting s d).request { flow = then })) p)
+          known_now s d = let m = waiting s d in known_set old.requests requests q (Some (now_kept then)) writes s.asked m.request (record m.request { flow = then }) m.there d.requests (known_is s d then)
 
-        -- what is known of the requests
-        known_now : {given : Handed} (s : State) (d : IsHanding given old s) (then : Option Flow) →
-            map known (slice_set old.requests i (now_kept then)) ≡ map kept (slice_set s.asked (q - 1) (record (waiting s d).0 { flow = then }))
-        known_now s d then =
-            let m = waiting s d in
-            map-set known old.requests i (now_kept then)
-            ∙ ap (λ rs. slice_set rs i (known (now_kept then))) d.requests
-            ∙ ap (λ (x : Known). slice_set (map kept s.asked) i (record x { flow = then })) (sym m.2)
-            ∙ sym (map-set kept s.asked i (record m.0 { flow = then }))
-            ∙ ap (map kept) (sym (asked_is s m.0 then))
-
-        sized_now : {given : Handed} (s : State) (d : IsHanding given old s) (then : Option Flow) → IsSized then → AllByRecursion (λ (b : Asked). IsSized b.flow) (slice_set old.requests i (now_kept then))
-        sized_now s d then has = all_set (λ (b : Asked). IsSized b.flow) old.requests i (now_kept then) d.flows has
+          sized_now : {given : Handed} (s : State) (d : IsHanding given old s) → IsSized then → (p : ℕ) → IsSized (flow_in (asked_at requests p))
+          sized_now s d has = all_written old.requests requests q (Some (now_kept then)) writes (λ o. IsSized (flow_in o)) d.flows has
 
         -- what was read
-        reads_now : {given : Handed} (s t : State) (d : IsHanding given old s) → t.asked ≡ slice_set s.asked (q - 1) (record (waiting s d).0 { flow = flow_then does }) → t.ends ≡ ends_then s.ends q does →
-            t.saw ≡ record { request = q; end = end } ∷ s.saw → length t.world.requests ≡ length s.world.requests → AreRead given (slice_set old.requests i (now_kept (flow_then does))) t
-        reads_now {given} s t d asked ends saw count =
-            let m = waiting s d in
-            reads_next old.requests s t i q place a at m.0 m.1 (ap (λ (x : Known). x.kind) (sym m.2)) f going (ap (λ (x : Known). x.flow) m.2 ∙ going) end now does is
-            (asked ∙ asked_is s m.0 (flow_then does)) ends saw count given d.reads
+        reads_now : {given : Handed} (s t : State) (d : IsHanding given old s) (requests : BTreeMap ℕ Asked) → Writes old.requests requests q (Some (now_kept (flow_then does))) →
+            t.asked ≡ slice_set s.asked (q - 1) (record (waiting s d).request { flow = flow_then does }) → t.ends ≡ ends_then s.ends q does → t.saw ≡ record { request = q; end = end } ∷ s.saw →
+            length t.world.requests ≡ length s.world.requests → AreRead given requests t
+        reads_now {given} s t d requests writes asked ends saw count =
+            let m = waiting s d in reads_next old.requests s t q a at m.request m.there (sym m.kind) f going m.flow end now does is asked ends saw count requests writes given d.reads
 
         -- it was heard, and then waits so
-        pub waited : (late new : Driver F) (x : Asked) (g : Flow) → x ≡ now_kept None → late.requests ≡ slice_set old.requests i x →
-            ((b : Asked) → slice_get late.requests i ≡ Some b → new ≡ record late { requests = slice_set late.requests i (record b { flow = Some g }) }) →
-            new ≡ record late { requests = slice_set old.requests i (now_kept (Some g)) }
-        waited late new x g is_heard requests waits =
-            let there : slice_get late.requests i ≡ Some x = ap (λ rs. slice_get rs i) requests ∙ get_set old.requests i a x at in
-            waits x there
-            ∙ ap (λ rs. record late { requests = rs }) (
-            ap (λ rs. slice_set rs i (record x { flow = Some g })) requests
-            ∙ set_twice old.requests i x (record x { flow = Some g })
-            ∙ ap (λ (z : Asked). slice_set old.requests i (record z { flow = Some g })) is_heard
-            )
+        waited : (mid late : BTreeMap ℕ Asked) (x : Asked) (g : Flow) → x ≡ now_kept None → Writes old.requests mid q (Some x) →
+            ((b : Asked) → asked_at mid q ≡ Some b → Writes mid late q (Some (record b { flow = Some g }))) → Writes old.requests late q (Some (now_kept (Some g)))
+        waited mid late x g is_heard heard waits =
+            let first : Writes old.requests mid q (Some (now_kept None)) = subst (λ y. Writes old.requests mid q (Some y)) is_heard heard in
+            written_over old.requests mid late q (Some (now_kept None)) (Some (now_kept (Some g))) first (waits (now_kept None) first.here)
 
         module _ (g : Flow) (phase : Phase AnyRow) (more : does ≡ More g phase) where
           pub next_phase : IsGood phase
@@ -189,30 +182,29 @@ module _ {F : Type 0} (aloud : Bool) (old : Driver F) (i q : ℕ) (place : i + 1
           same_block : g.block ≡ f.block
           same_block = let h : StepIsGood f.block (More g phase) = subst (StepIsGood f.block) more good in h.0
 
-          pub more_plays : (new : Driver F) (report : Report AnyRow) (told : Told) → Steps any_join words old.world new.world report (step.Phase q phase) →
-              new.ends ≡ old.ends → new.history ≡ old.history →
-              new.requests ≡ slice_set old.requests i (now_kept (Some g)) → told ≡ record { refused = None; words = Empty; lines = report.lines } →
-              PlaysHeard aloud old new told (λ s. follow s q (numbered s.asked q) end)
-          more_plays new report told steps ends history requests says given s d =
+          more_plays : (new : Driver F) (report : Report AnyRow) (told : Told) → Steps any_join words old.world new.world report (step.Phase q phase) → new.ends ≡ old.ends → new.history ≡ old.history →
+              Writes old.requests new.requests q (Some (now_kept (Some g))) → told ≡ record { refused = None; words = Empty; lines = report.lines } → PlaysHeard aloud old new told (λ s. follow s q (numbered s.asked q) end)
+          more_plays new report told steps ends history writes says given s d =
               let m = waiting s d in
               let then = (steps s.world d.world).does in
-              let t : State = (goes (seen s) q m.0 (drawn s d) g phase).state in
+              let t : State = (goes (seen s) q m.request (drawn s d) g phase).state in
               let P : Outcome → Type 0 = λ o. DoesHeard given aloud new told s o in
               let has_block : 0 < g.block = subst (λ b. 0 < b) (sym same_block) (sized (s, as_driven given old s d)) in
-              let read : AreRead given (slice_set old.requests i (now_kept (Some g))) t =
-              subst (λ fl. AreRead given (slice_set old.requests i (now_kept fl)) t) (ap flow_then more)
-              (reads_now s t d (ap (λ fl. slice_set s.asked (q - 1) (record m.0 { flow = fl })) (sym (ap flow_then more))) (sym (ap (ends_then s.ends q) more)) refl (same_count s.world (phases q phase) tt))
+              let going_on : Some g ≡ flow_then does = sym (ap flow_then more) in
+              let read : AreRead given new.requests t =
+              reads_now s t d new.requests (subst (λ fl. Writes old.requests new.requests q (Some (now_kept fl))) going_on writes) (ap (λ fl. slice_set s.asked (q - 1) (record m.request { flow = fl })) going_on)
+              (sym (ap (ends_then s.ends q) more)) refl (same_count s.world (phases q phase) tt)
               in
-              subst P (sym (done s d ∙ ap (takes (seen s) q m.0 (drawn s d)) more)) (record {
+              subst P (sym (done s d ∙ ap (takes (seen s) q m.request (drawn s d)) more)) (record {
                 stands = record {
                   world = then.stands;
-                  requests = ap (map known) requests ∙ known_now s d (Some g);
+                  requests = known_now new.requests (Some g) writes s d;
                   ends = ends ∙ d.ends;
                   history = ap (λ h. h.0) history ∙ d.history;
-                  flows = subst (AllByRecursion (λ (b : Asked). IsSized b.flow)) (sym requests) (sized_now s d (Some g) has_block);
-                  reads = subst (λ rs. AreRead given rs t) (sym requests) read;
+                  flows = sized_now new.requests (Some g) writes s d has_block;
+                  reads = read;
                 };
-                tells = heard_when aloud told (goes (seen s) q m.0 (drawn s d) g phase) (λ e. record {
+                tells = heard_when aloud told (goes (seen s) q m.request (drawn s d) g phase) (λ e. record {
                   refused = ap (λ (t : Told). t.refused) says;
                   words = ap (λ (t : Told). t.words) says;
                   lines = ap (λ (t : Told). t.lines) says ∙ then.tells.lines;
@@ -220,96 +212,83 @@ module _ {F : Type 0} (aloud : Bool) (old : Driver F) (i q : ℕ) (place : i + 1
                 fits = ((then.stands.fits, then.spelled), tt);
               })
 
-          more_waits : (late new : Driver F) (x : Asked) (report : Report AnyRow) (told : Told) → x ≡ now_kept None → late.requests ≡ slice_set old.requests i x →
-              ((b : Asked) → slice_get late.requests i ≡ Some b → new ≡ record late { requests = slice_set late.requests i (record b { flow = Some g }) }) →
-              Steps any_join words old.world late.world report (step.Phase q phase) → late.ends ≡ old.ends → late.history ≡ old.history → told ≡ record { refused = None; words = Empty; lines = report.lines } →
-              PlaysHeard aloud old new told (λ s. follow s q (numbered s.asked q) end)
-          more_waits late new x report told is_heard requests waits steps ends history says =
-              subst (λ (n : Driver F). PlaysHeard aloud old n told (λ s. follow s q (numbered s.asked q) end)) (sym (waited late new x g is_heard requests waits))
-              (more_plays (record late { requests = slice_set old.requests i (now_kept (Some g)) }) report told steps ends history refl says)
-
-          pub more_begins : (new : Driver F) (x : Asked) → x ≡ now_kept None → (r : Result Told Memory) → IfOk r (λ told. Begins (record old { requests = slice_set old.requests i x }) new told i q g phase) →
+          pub more_begins : (mid : BTreeMap ℕ Asked) (new : Driver F) (x : Asked) → x ≡ now_kept None → Writes old.requests mid q (Some x) → (r : Result Told Memory) → IfOk r (λ told. Begins (record old { requests = mid }) new told q g phase) →
               IfOk r (λ told. PlaysHeard aloud old new told (λ s. follow s q (numbered s.asked q) end))
-          more_begins new x is_heard (Err e) h = tt
-          more_begins new x is_heard (Ok told) h = more_waits (record old { world = new.world; requests = slice_set old.requests i x }) new x h.report told is_heard refl h.rest h.begins refl refl h.tells
+          more_begins mid new x is_heard heard (Err e) h = tt
+          more_begins mid new x is_heard heard (Ok told) h =
+              more_plays new h.report told h.begins (ap (λ (d : Driver F). d.ends) h.rest) (ap (λ (d : Driver F). d.history) h.rest) (waited mid new.requests x g is_heard heard h.waits) h.tells
 
           pub more_overflows : WorldOverflows any_join words old.world (step.Phase q phase) → Overflows old (λ s. follow s q (numbered s.asked q) end)
           more_overflows full s d fits =
               let m = waiting s d in
-              let here : FitsOutcome s (goes (seen s) q m.0 (drawn s d) g phase) = subst (λ (o : Outcome). FitsOutcome s o) (done s d ∙ ap (takes (seen s) q m.0 (drawn s d)) more) fits in
+              let here : FitsOutcome s (goes (seen s) q m.request (drawn s d) g phase) = subst (λ (o : Outcome). FitsOutcome s o) (done s d ∙ ap (takes (seen s) q m.request (drawn s d)) more) fits in
               (full s.world d.world).lacks here.0.0
 
         module _ (g : Flow) (rests : Rests g does) where
-          wait_plays : (told : Told) → told ≡ record { refused = None; words = Empty; lines = [] } →
-              PlaysHeard aloud old (record old { requests = slice_set old.requests i (now_kept (Some g)) }) told (λ s. follow s q (numbered s.asked q) end)
-          wait_plays told says given s d =
+          wait_plays : (requests : BTreeMap ℕ Asked) (told : Told) → Writes old.requests requests q (Some (now_kept (Some g))) → told ≡ record { refused = None; words = Empty; lines = [] } →
+              PlaysHeard aloud old (record old { requests = requests }) told (λ s. follow s q (numbered s.asked q) end)
+          wait_plays requests told writes says given s d =
               let m = waiting s d in
-              let new : Driver F = record old { requests = slice_set old.requests i (now_kept (Some g)) } in
-              let t : State = record (seen s) { asked = slice_set s.asked (q - 1) (record m.0 { flow = Some g }) } in
-              let P : Outcome → Type 0 = λ o. DoesHeard given aloud new told s o in
+              let t : State = record (seen s) { asked = slice_set s.asked (q - 1) (record m.request { flow = Some g }) } in
+              let P : Outcome → Type 0 = λ o. DoesHeard given aloud (record old { requests = requests }) told s o in
               let has_block : 0 < g.block = subst (λ b. 0 < b) (sym (rests_block g does f.block rests good)) (sized (s, as_driven given old s d)) in
-              let then : flow_then does ≡ Some g = rests_flow g does rests in
-              subst P (sym (done s d ∙ rests_takes g does (seen s) q m.0 (drawn s d) rests)) (record {
+              let going_on : Some g ≡ flow_then does = sym (rests_flow g does rests) in
+              subst P (sym (done s d ∙ rests_takes g does (seen s) q m.request (drawn s d) rests)) (record {
                 stands = record {
                   world = d.world;
-                  requests = known_now s d (Some g);
+                  requests = known_now requests (Some g) writes s d;
                   ends = d.ends;
                   history = d.history;
-                  flows = sized_now s d (Some g) has_block;
-                  reads = subst (λ fl. AreRead given (slice_set old.requests i (now_kept fl)) t) then
-                      (reads_now s t d (ap (λ fl. slice_set s.asked (q - 1) (record m.0 { flow = fl })) (sym then)) (sym (rests_ends g does s.ends q rests)) refl refl);
+                  flows = sized_now requests (Some g) writes s d has_block;
+                  reads =
+                      reads_now s t d requests (subst (λ fl. Writes old.requests requests q (Some (now_kept fl))) going_on writes) (ap (λ fl. slice_set s.asked (q - 1) (record m.request { flow = fl })) going_on)
+                      (sym (rests_ends g does s.ends q rests)) refl refl;
                 };
                 tells = heard_when aloud told (silent t) (λ e. record { refused = ap (λ (t : Told). t.refused) says; words = ap (λ (t : Told). t.words) says; lines = ap (λ (t : Told). t.lines) says });
                 fits = tt;
               })
 
-          pub wait_waits : (new : Driver F) (x : Asked) (told : Told) → x ≡ now_kept None →
-              ((b : Asked) → slice_get (slice_set old.requests i x) i ≡ Some b → new ≡ record old { requests = slice_set (slice_set old.requests i x) i (record b { flow = Some g }) }) →
+          pub wait_waits : (mid : BTreeMap ℕ Asked) (new : Driver F) (x : Asked) (told : Told) → x ≡ now_kept None → Writes old.requests mid q (Some x) → Waits (record old { requests = mid }) new q g →
               told ≡ record { refused = None; words = Empty; lines = [] } → PlaysHeard aloud old new told (λ s. follow s q (numbered s.asked q) end)
-          wait_waits new x told is_heard waits says =
-              subst (λ (n : Driver F). PlaysHeard aloud old n told (λ s. follow s q (numbered s.asked q) end)) (sym (waited (record old { requests = slice_set old.requests i x }) new x g is_heard refl waits)) (wait_plays told says)
+          wait_waits mid new x told is_heard heard waits says =
+              subst (λ (n : Driver F). PlaysHeard aloud old n told (λ s. follow s q (numbered s.asked q) end)) (sym waits.rest) (wait_plays new.requests told (waited mid new.requests x g is_heard heard waits.waits) says)
 
-        module _ (last : FlowEnd) (ends : does ≡ End last) (x : Asked) (is_heard : x ≡ now_kept None) where
-          abbrev mid : Driver F
-          mid = record old { requests = slice_set old.requests i x }
-
-          end_does : (new : Driver F) (told : Told) → Finishes aloud mid new told q a.kind last → PlaysHeard aloud old new told (λ s. follow s q (numbered s.asked q) end)
-          end_does new told fin given s d =
+        module _ (last : FlowEnd) (ends : does ≡ End last) (mid : BTreeMap ℕ Asked) (x : Asked) (is_heard : x ≡ now_kept None) (heard : Writes old.requests mid q (Some x)) where
+          pub end_plays : (new : Driver F) (told : Told) → Finishes aloud (record old { requests = mid }) new told q a.kind last → PlaysHeard aloud old new told (λ s. follow s q (numbered s.asked q) end)
+          end_plays new told fin given s d =
               let m = waiting s d in
               let then = (fin.closes s.world d.world).does in
-              let t : State = (finishes (seen s) q m.0 last).state in
+              let t : State = (finishes (seen s) q m.request last).state in
               let P : Outcome → Type 0 = λ o. DoesHeard given aloud new told s o in
-              let requests : new.requests ≡ slice_set old.requests i (now_kept None) = ap (λ (n : Driver F). n.requests) fin.rest ∙ ap (slice_set old.requests i) is_heard in
-              let same_kind : a.kind ≡ m.0.kind = ap (λ (b : Known). b.kind) (sym m.2) in
-              let read : AreRead given (slice_set old.requests i (now_kept None)) t =
-              subst (λ fl. AreRead given (slice_set old.requests i (now_kept fl)) t) (ap flow_then ends)
-              (reads_now s t d (ap (λ fl. slice_set s.asked (q - 1) (record m.0 { flow = fl })) (sym (ap flow_then ends))) (sym (ap (ends_then s.ends q) ends)) refl (same_count s.world (plainly (step.Close q)) tt))
+              let requests : mid ≡ new.requests = sym (ap (λ (n : Driver F). n.requests) fin.rest) in
+              let first : Writes old.requests mid q (Some (now_kept None)) = subst (λ y. Writes old.requests mid q (Some y)) is_heard heard in
+              let writes : Writes old.requests new.requests q (Some (now_kept None)) = subst (λ rs. Writes old.requests rs q (Some (now_kept None))) requests first in
+              let over : None ≡ flow_then does = sym (ap flow_then ends) in
+              let read : AreRead given new.requests t =
+              reads_now s t d new.requests (subst (λ fl. Writes old.requests new.requests q (Some (now_kept fl))) over writes) (ap (λ fl. slice_set s.asked (q - 1) (record m.request { flow = fl })) over)
+              (sym (ap (ends_then s.ends q) ends)) refl (same_count s.world (plainly (step.Close q)) tt)
               in
-              subst P (sym (done s d ∙ ap (takes (seen s) q m.0 (drawn s d)) ends)) (record {
+              subst P (sym (done s d ∙ ap (takes (seen s) q m.request (drawn s d)) ends)) (record {
                 stands = record {
                   world = then.stands;
-                  requests = ap (map known) requests ∙ known_now s d None;
+                  requests = known_now new.requests None writes s d;
                   ends = ap (λ (n : Driver F). n.ends) fin.rest ∙ ap (λ es. es ++ (q, last) ∷ []) d.ends;
                   history = ap (λ (n : Driver F). n.history.0) fin.rest ∙ ap (λ h. h ++ record_of q last ∷ []) d.history;
-                  flows = subst (AllByRecursion (λ (b : Asked). IsSized b.flow)) (sym requests) (sized_now s d None tt);
-                  reads = subst (λ rs. AreRead given rs t) (sym requests) read;
+                  flows = sized_now new.requests None writes s d tt;
+                  reads = read;
                 };
-                tells = heard_when aloud told (finishes (seen s) q m.0 last) (λ e. record {
+                tells = heard_when aloud told (finishes (seen s) q m.request last) (λ e. record {
                   refused = ap (λ (t : Told). t.refused) fin.tells;
                   words = ap (λ (t : Told). t.words) fin.tells;
-                  lines = ap (λ (t : Told). t.lines) fin.tells ∙ heard_all aloud (lines_of_end q a.kind last) e ∙ ap (λ k. lines_of_end q k last) same_kind;
+                  lines = ap (λ (t : Told). t.lines) fin.tells ∙ heard_all aloud (lines_of_end q a.kind last) e ∙ ap (λ k. lines_of_end q k last) (sym m.kind);
                 });
                 fits = ((then.stands.fits, then.spelled), tt);
               })
 
-          pub end_plays : (new : Driver F) (r : Result Told Memory) → IfOk r (λ told. Finishes aloud mid new told q a.kind last) → IfOk r (λ told. PlaysHeard aloud old new told (λ s. follow s q (numbered s.asked q) end))
-          end_plays new (Err e) h = tt
-          end_plays new (Ok told) h = end_does new told h
-
           pub end_overflows : WorldOverflows any_join words old.world (step.Close q) → Overflows old (λ s. follow s q (numbered s.asked q) end)
           end_overflows full s d fits =
               let m = waiting s d in
-              let here : FitsOutcome s (finishes (seen s) q m.0 last) = subst (λ (o : Outcome). FitsOutcome s o) (done s d ∙ ap (takes (seen s) q m.0 (drawn s d)) ends) fits in
+              let here : FitsOutcome s (finishes (seen s) q m.request last) = subst (λ (o : Outcome). FitsOutcome s o) (done s d ∙ ap (takes (seen s) q m.request (drawn s d)) ends) fits in
               (full s.world d.world).lacks here.0.0
 
       -- a write that draws goes on with a phase
@@ -345,6 +324,6 @@ module _ {F : Type 0} (aloud : Bool) (old : Driver F) (i q : ℕ) (place : i + 1
       pub drawn_overflows : IsOverdrawn f.id f.stage end now → Overflows old (λ s. follow s q (numbered s.asked q) end)
       drawn_overflows big s d fits =
           let m = waiting s d in
-          let here : FitsOutcome s (takes (seen s) q m.0 (drawn s d) (flow.next f end now)) = subst (λ (o : Outcome). FitsOutcome s o) (taken s d) fits in
-          let P : ℕ → Type 0 = λ t. AllByRecursion (λ (v : Version). v.ts < 2 ^ 64) (takes (seen s) q m.0 (draws_of s q f.block f.stage end t) (flow.next f end now)).new_versions in
-          over (seen s) m.0 f.id f.block f.stage end big (subst P (time s d) here.1)
+          let here : FitsOutcome s (takes (seen s) q m.request (drawn s d) (flow.next f end now)) = subst (λ (o : Outcome). FitsOutcome s o) (taken s d) fits in
+          let P : ℕ → Type 0 = λ t. AllByRecursion (λ (v : Version). v.ts < 2 ^ 64) (takes (seen s) q m.request (draws_of s q f.block f.stage end t) (flow.next f end now)).new_versions in
+          over (seen s) m.request f.id f.block f.stage end big (subst P (time s d) here.1)

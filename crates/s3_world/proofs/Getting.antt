@@ -78,6 +78,12 @@ some_block (Some blocks) bytes body e = absurd (cc)
 none_left : (blocks : Option (List (List ℕ))) (given bytes : List ℕ) → blocks ≡ None → IsLeft blocks given bytes → given ≡ []
 none_left blocks given bytes e is_left = let h : IsLeft None given bytes = subst (λ b. IsLeft b given bytes) e is_left in h
 
+-- where no byte came none was handed out, and no byte waits
+pub nothing_left : (blocks : Option (List (List ℕ))) (bytes : List ℕ) → IsLeft blocks bytes [] → (bytes ≡ []) × IsLeft blocks [] []
+nothing_left None bytes is_left = (is_left, refl)
+nothing_left (Some blocks) [] is_left = (refl, is_left)
+nothing_left (Some blocks) (b ∷ bytes) is_left = absurd (cc)
+
 -- whatever its phase gave, the rest stays the rest
 pub get_right : (id block : ℕ) (blocks : Option (List (List ℕ))) (given : List ℕ) (stage : Stage) (end : PhaseEnd AnyRow) (now : ℕ) → IsWaitingGet blocks stage → IsLeft blocks given (gathered_at (Some stage)) →
     GoesRight (blocks_after Get blocks stage end) given (flow.goes_on id block stage end now)

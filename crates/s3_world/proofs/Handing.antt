@@ -1,6 +1,7 @@
 -- Blocks are handed out, and ends are taken.
-use Rattle.std.proofs.Common.{◌≡◌, ℕ, ◌+◌, Bool, true, false, Option, Some, None, List, [], ◌∷◌, ◌++◌, refl, sym, ap, ◌∙◌, subst, append_assoc, append-nil}
-use Rattle.std.specs.Prelude.{slice_get, slice_set, if◌then◌else◌}
+use Rattle.std.proofs.Common.{◌≡◌, ℕ, Bool, true, false, Option, Some, None, List, [], ◌∷◌, ◌++◌, refl, sym, ap, ◌∙◌, subst, append_assoc, append-nil}
+use Rattle.std.specs.Prelude.{if◌then◌else◌}
+use Rattle.std.specs.BTreeMap.{BTreeMap}
 use Rattle.std.specs.List.{concat}
 use Rattle.crdt_rows.specs.declared.version.Version.{Version}
 use Rattle.crdt_rows.specs.declared.body.Meta.{Meta}
@@ -16,10 +17,12 @@ use Rattle.store_model.specs.Run.{State, Asked as Waiting}
 use Rattle.store_model.specs.Acts.{end_of, without_end}
 use Rattle.store_model.specs.Gets.{object_seen, is_get, is_there, stage_of, gathered_at, body_of, gathered, found_by}
 use Rattle.s3_world.specs.declared.asked.Asked.{Asked}
-use Rattle.s3_world.specs.Reads.{Handed, of, nothing_handed, found_in, blocks_in, IsLeft, IsHanded, HasNoBlock, IsWaitingGet, IsReadingAs, IsReading, IsOver, AreRead, HasAll}
-use Rattle.s3_world.proofs.Places.{numbered_place, numbered_set, numbered_other, all_set, all_get}
+use Rattle.s3_world.specs.Driven.{kept}
+use Rattle.s3_world.specs.Reads.{Handed, of, nothing_handed, asked_at, Writes, found_in, blocks_in, IsLeft, IsHanded, HasNoBlock, IsWaitingGet, IsReadingAs, IsReadingIn, IsOver, AreRead, HasAll}
 use Rattle.s3_world.proofs.Overs.{by_number, others_without, ended_is_over, over_without, taken_is_gone}
-use Rattle.s3_world.proofs.Getting.{found_of, gathered_of}
+use Rattle.s3_world.proofs.Kept.{WaitsToo, all_written, over_at}
+use Rattle.s3_world.proofs.Reading.{nobody_handed}
+use Rattle.s3_world.proofs.Getting.{found_of, gathered_of, nothing_left}
 
 -- ---- the first block that waits is handed out
 
@@ -50,37 +53,28 @@ reads_still Delete flow blocks rest h = absurd (cc)
 reads_still Copy flow blocks rest h = absurd (cc)
 reads_still Keys flow blocks rest h = absurd (cc)
 
-module _ (requests : List Asked) (s : State) (i q : ℕ) (place : i + 1 ≡ q) (a : Asked) (at : slice_get requests i ≡ Some a) (piece : List ℕ) (rest : List (List ℕ)) (waits : a.blocks ≡ Some (piece ∷ rest)) where
-  abbrev less : Asked
-  less = record a { blocks = Some rest }
-
-  abbrev requests_less : List Asked
-  requests_less = slice_set requests i less
-
-  less_here : numbered requests_less q ≡ Some less
-  less_here = numbered_set requests i q a less place at
-
-  less_there : (p : ℕ) → (q ≡ p → ⊥) → numbered requests_less p ≡ numbered requests p
-  less_there p other = numbered_other requests i q p less place other
-
-  one_less : (bytes all : List ℕ) → IsLeft (blocks_in (numbered requests q)) bytes all → IsLeft (blocks_in (numbered requests_less q)) (bytes ++ piece) all
+module _ (requests requests_less : BTreeMap ℕ Asked) (s : State) (q : ℕ) (a : Asked) (at : asked_at requests q ≡ Some a) (piece : List ℕ) (rest : List (List ℕ)) (waits : a.blocks ≡ Some (piece ∷ rest))
+    (less : Writes requests requests_less q (Some (record a { blocks = Some rest }))) where
+  one_less : (bytes all : List ℕ) → IsLeft (blocks_in (asked_at requests q)) bytes all → IsLeft (blocks_in (asked_at requests_less q)) (bytes ++ piece) all
   one_less bytes all h =
-      let before : bytes ++ (piece ++ concat rest) ≡ all = (let z : IsLeft (Some (piece ∷ rest)) bytes all = subst (λ o. IsLeft o bytes all) (ap blocks_in (numbered_place requests i q place ∙ at) ∙ waits) h in z) in
-      subst (λ o. IsLeft (blocks_in o) (bytes ++ piece) all) (sym less_here) (append_assoc bytes piece (concat rest) ∙ before)
+      let before : bytes ++ (piece ++ concat rest) ≡ all = (let z : IsLeft (Some (piece ∷ rest)) bytes all = subst (λ o. IsLeft o bytes all) (ap blocks_in at ∙ waits) h in z) in
+      subst (λ o. IsLeft (blocks_in o) (bytes ++ piece) all) (sym less.here) (append_assoc bytes piece (concat rest) ∙ before)
 
-  left_less : (p : ℕ) (bytes all : List ℕ) → (q ≡ p → ⊥) → IsLeft (blocks_in (numbered requests p)) bytes all → IsLeft (blocks_in (numbered requests_less p)) bytes all
-  left_less p bytes all other h = subst (λ o. IsLeft (blocks_in o) bytes all) (sym (less_there p other)) h
+  left_less : (p : ℕ) (bytes all : List ℕ) → (q ≡ p → ⊥) → IsLeft (blocks_in (asked_at requests p)) bytes all → IsLeft (blocks_in (asked_at requests_less p)) bytes all
+  left_less p bytes all other h = subst (λ o. IsLeft (blocks_in o) bytes all) (sym (less.others p other)) h
 
   pub piece_handed : (bytes : List ℕ) → AreRead (of q bytes) requests s → AreRead (of q (bytes ++ piece)) requests_less s
   piece_handed bytes reads = record {
-    found = λ p. by_number q p (found_in (numbered requests_less p) ≡ found_by s p)
-        (λ same. subst (λ p. found_in (numbered requests_less p) ≡ found_by s p) same (ap found_in less_here ∙ (sym (ap found_in (numbered_place requests i q place ∙ at)) ∙ reads.found q)))
-        (λ other. ap found_in (less_there p other) ∙ reads.found p);
+    found = λ p. by_number q p (found_in (asked_at requests_less p) ≡ found_by s p)
+        (λ same. subst (λ p. found_in (asked_at requests_less p) ≡ found_by s p) same (ap found_in less.here ∙ (sym (ap found_in at) ∙ reads.found q)))
+        (λ other. ap found_in (less.others p other) ∙ reads.found p);
     left = λ p. by_number q p ((bytes : List ℕ) × IsHanded requests_less s (of p bytes))
         (λ same. subst (λ p. (bytes : List ℕ) × IsHanded requests_less s (of p bytes)) same (let h = reads.left q in (h.0 ++ piece, one_less h.0 (gathered s q) h.1)))
         (λ other. let h = reads.left p in (h.0, left_less p h.0 (gathered s p) other h.1));
     handed = one_less bytes (gathered s q) reads.handed;
-    reading = all_set IsReading requests i less reads.reading (reads_still a.kind a.flow (piece ∷ rest) rest (subst (λ b. IsReadingAs a.kind b a.flow) waits (all_get IsReading requests i a reads.reading at)));
+    reading =
+        let reading : IsReadingAs a.kind a.blocks a.flow = (let h : IsReadingIn (Some a) = subst IsReadingIn at (reads.reading q) in h) in
+        all_written requests requests_less q (Some (record a { blocks = Some rest })) less IsReadingIn reads.reading (reads_still a.kind a.flow (piece ∷ rest) rest (subst (λ b. IsReadingAs a.kind b a.flow) waits reading));
     over = reads.over;
     seen = reads.seen;
     count = reads.count;
@@ -116,15 +110,25 @@ nothing_yet m Delete blocks flow reading get e = absurd (cc)
 nothing_yet m Copy blocks flow reading get e = absurd (cc)
 nothing_yet m Keys blocks flow reading get e = absurd (cc)
 
-pub all_handed : (requests : List Asked) (s : State) (i q : ℕ) → i + 1 ≡ q → (a : Asked) → slice_get requests i ≡ Some a → (m : Waiting) → slice_get s.asked i ≡ Some m → a.kind ≡ m.kind → a.flow ≡ m.flow → HasNoBlock a.blocks →
-    (bytes : List ℕ) → AreRead (of q bytes) requests s → HasAll s q bytes
-all_handed requests s i q place a at m model_at same_kind same_flow none bytes reads get ended =
-    let code : numbered requests q ≡ Some a = numbered_place requests i q place ∙ at in
-    let now : Waiting = record m { kind = a.kind; flow = a.flow } in
-    let model : numbered s.asked q ≡ Some now = numbered_place s.asked i q place ∙ model_at ∙ (λ j. Some (record m { kind = sym same_kind j; flow = sym same_flow j })) in
+-- a request that waits too
+pub all_handed : (requests : BTreeMap ℕ Asked) (s : State) (q : ℕ) (a : Asked) → asked_at requests q ≡ Some a → (f : Flow) → a.flow ≡ Some f → WaitsToo s.asked q a f → HasNoBlock a.blocks → (bytes : List ℕ) → AreRead (of q bytes) requests s → HasAll s q bytes
+all_handed requests s q a at f going m none bytes reads get ended =
+    let now : Waiting = record m.request { kind = a.kind; flow = Some f } in
+    let model : numbered s.asked q ≡ Some now = m.there ∙ (λ j. Some (record m.request { kind = m.kind j; flow = m.flow j })) in
     let came : gathered s q ≡ gathered_of (Some now) None = ap (λ o. gathered_of o (end_of s.ends q)) model ∙ ap (gathered_of (Some now)) ended in
-    let is_left : IsLeft a.blocks bytes (gathered s q) = subst (λ o. IsLeft (blocks_in o) bytes (gathered s q)) code reads.handed in
-    none_waits a.blocks bytes (gathered s q) none (λ e. came ∙ nothing_yet m a.kind a.blocks a.flow (all_get IsReading requests i a reads.reading at) (sym (ap is_get model) ∙ get) e) is_left
+    let is_left : IsLeft a.blocks bytes (gathered s q) = subst (λ o. IsLeft (blocks_in o) bytes (gathered s q)) at reads.handed in
+    let reading : IsReadingAs a.kind a.blocks (Some f) = subst (IsReadingAs a.kind a.blocks) going (let h : IsReadingIn (Some a) = subst IsReadingIn at (reads.reading q) in h) in
+    none_waits a.blocks bytes (gathered s q) none (λ e. came ∙ nothing_yet m.request a.kind a.blocks (Some f) reading (sym (ap is_get model) ∙ get) e) is_left
+
+over_gathered : (asked : List Waiting) (q : ℕ) (o : Option Waiting) → numbered asked q ≡ o → kept (numbered asked q) ≡ None → gathered_of o None ≡ []
+over_gathered asked q None at none = refl
+over_gathered asked q (Some m) at none = ap (λ fl. gathered_of (Some (record m { flow = fl })) None) (over_at asked q m at none)
+
+-- a request that waits for nothing, or that nobody asked for
+pub over_handed : (requests : BTreeMap ℕ Asked) (s : State) (q : ℕ) → kept (numbered s.asked q) ≡ None → (bytes : List ℕ) → AreRead (of q bytes) requests s → HasAll s q bytes
+over_handed requests s q over bytes reads get ended =
+    let came : gathered s q ≡ [] = ap (gathered_of (numbered s.asked q)) ended ∙ over_gathered s.asked q (numbered s.asked q) refl over in
+    (nothing_left (blocks_in (asked_at requests q)) bytes (subst (IsLeft (blocks_in (asked_at requests q)) bytes) came reads.handed)).0 ∙ sym came
 
 -- ---- an end is taken
 
@@ -140,70 +144,63 @@ not_there m end seen over none =
     let is : is_there (stage_of (Some m)) end ≡ false = ap (λ fl. is_there (stage_of (Some (record m { flow = fl }))) end) over ∙ ap (is_there None) none in
     ap (λ b. if is_get (Some m) then (if b then seen else None) else None) is ∙ either_way (is_get (Some m))
 
-module _ (requests : List Asked) (s : State) (i q : ℕ) (place : i + 1 ≡ q) (a : Asked) (at : slice_get requests i ≡ Some a) (m : Waiting) (model_at : slice_get s.asked i ≡ Some m) (same_flow : a.flow ≡ m.flow) (end : FlowEnd) (ended : end_of s.ends q ≡ Some end) where
-  abbrev done : Asked
-  done = record a { found = None; blocks = None }
-
-  abbrev requests_done : List Asked
-  requests_done = slice_set requests i done
-
+module _ (requests requests_done : BTreeMap ℕ Asked) (s : State) (q : ℕ) (end : FlowEnd) (ended : end_of s.ends q ≡ Some end) where
   abbrev without : State
   without = record s { ends = without_end s.ends q }
 
-  model_here : numbered s.asked q ≡ Some m
-  model_here = numbered_place s.asked i q place ∙ model_at
+  over_came : (o : Option Waiting) → IsOver o → gathered_of o (Some end) ≡ body_of (Some end)
+  over_came None over = absurd over
+  over_came (Some m) over = ap (λ fl. gathered_of (Some (record m { flow = fl })) (Some end)) over
 
-  done_here : numbered requests_done q ≡ Some done
-  done_here = numbered_set requests i q a done place at
-
-  done_there : (p : ℕ) → (q ≡ p → ⊥) → numbered requests_done p ≡ numbered requests p
-  done_there p other = numbered_other requests i q p done place other
+  over_found : (o : Option Waiting) (now : Option FlowEnd) (seen : Option (Version × Meta)) → IsOver o → now ≡ None → found_of o now seen ≡ None
+  over_found None now seen over is = absurd over
+  over_found (Some m) now seen over is = not_there m now seen over is
 
   module _ {given : Handed} (reads : AreRead given requests s) where
-    over_here : m.flow ≡ None
-    over_here = let h : IsOver (Some m) = subst IsOver model_here (ended_is_over s.asked s.ends q end reads.over ended) in h
+    over_here : IsOver (numbered s.asked q)
+    over_here = ended_is_over s.asked s.ends q end reads.over ended
 
     -- the bytes of its object are what came of it
     came_with : gathered s q ≡ body_of (Some end)
-    came_with = ap (λ o. gathered_of o (end_of s.ends q)) model_here ∙ (ap (λ fl. gathered_of (Some (record m { flow = fl })) (end_of s.ends q)) over_here ∙ ap body_of ended)
+    came_with = ap (gathered_of (numbered s.asked q)) ended ∙ over_came (numbered s.asked q) over_here
 
-    pub left_with_end : (bytes : List ℕ) → IsHanded requests s (of q bytes) → IsLeft a.blocks bytes (body_of (Some end))
-    left_with_end bytes h = subst (IsLeft a.blocks bytes) came_with (subst (λ o. IsLeft (blocks_in o) bytes (gathered s q)) (numbered_place requests i q place ∙ at) h)
+    pub left_with_end : (bytes : List ℕ) → IsHanded requests s (of q bytes) → IsLeft (blocks_in (asked_at requests q)) bytes (body_of (Some end))
+    left_with_end bytes h = subst (IsLeft (blocks_in (asked_at requests q)) bytes) came_with h
 
-    pub some_left_with_end : (bytes : List ℕ) × IsLeft a.blocks bytes (body_of (Some end))
+    pub some_left_with_end : (bytes : List ℕ) × IsLeft (blocks_in (asked_at requests q)) bytes (body_of (Some end))
     some_left_with_end = let h = reads.left q in (h.0, left_with_end h.0 h.1)
 
     gathered_still : (p : ℕ) → (q ≡ p → ⊥) → gathered without p ≡ gathered s p
     gathered_still p other = ap (gathered_of (numbered s.asked p)) (others_without s.ends q p other)
 
-    done_reading : (k : Kind) (flow : Option Flow) → flow ≡ None → IsReadingAs k None flow
-    done_reading Get flow e = subst (IsReadingAs Get None) (sym e) tt
-    done_reading Put flow e = refl
-    done_reading Head flow e = refl
-    done_reading Delete flow e = refl
-    done_reading Copy flow e = refl
-    done_reading Keys flow e = refl
-
-    pub end_taken : AreRead nothing_handed requests_done without
-    end_taken = record {
-      found = λ p. by_number q p (found_in (numbered requests_done p) ≡ found_by without p)
+    module _ (done : Writes requests requests_done q None) where
+      found_done : (p : ℕ) → found_in (asked_at requests_done p) ≡ found_by without p
+      found_done p =
+          by_number q p (found_in (asked_at requests_done p) ≡ found_by without p)
           (λ same. (
-          let here : found_in (numbered requests_done q) ≡ found_by without q =
-          ap found_in done_here
-          ∙ sym (ap (λ o. found_of o (end_of (without_end s.ends q) q) (object_seen s.saw q)) model_here ∙ not_there m (end_of (without_end s.ends q) q) (object_seen s.saw q) over_here (taken_is_gone s.asked s.ends q reads.over))
+          let here : found_in (asked_at requests_done q) ≡ found_by without q =
+          ap found_in done.here ∙ sym (over_found (numbered s.asked q) (end_of (without_end s.ends q) q) (object_seen s.saw q) over_here (taken_is_gone s.asked s.ends q reads.over))
           in
-          subst (λ p. found_in (numbered requests_done p) ≡ found_by without p) same here
+          subst (λ p. found_in (asked_at requests_done p) ≡ found_by without p) same here
           ))
-          (λ other. ap found_in (done_there p other) ∙ reads.found p ∙ ap (λ e. found_of (numbered s.asked p) e (object_seen s.saw p)) (sym (others_without s.ends q p other)));
-      left = λ p. by_number q p ((bytes : List ℕ) × IsHanded requests_done without (of p bytes))
-          (λ same. subst (λ p. (bytes : List ℕ) × IsHanded requests_done without (of p bytes)) same ([], subst (λ o. IsLeft (blocks_in o) [] (gathered without q)) (sym done_here) refl))
+          (λ other. ap found_in (done.others p other) ∙ reads.found p ∙ ap (λ e. found_of (numbered s.asked p) e (object_seen s.saw p)) (sym (others_without s.ends q p other)))
+
+      left_done : (p : ℕ) → (bytes : List ℕ) × IsHanded requests_done without (of p bytes)
+      left_done p =
+          by_number q p ((bytes : List ℕ) × IsHanded requests_done without (of p bytes))
+          (λ same. subst (λ p. (bytes : List ℕ) × IsHanded requests_done without (of p bytes)) same ([], subst (λ o. IsLeft (blocks_in o) [] (gathered without q)) (sym done.here) refl))
           (λ other. (
           let h = reads.left p in
-          (h.0, subst (λ o. IsLeft (blocks_in o) h.0 (gathered without p)) (sym (done_there p other)) (subst (IsLeft (blocks_in (numbered requests p)) h.0) (sym (gathered_still p other)) h.1))
-          ));
-      handed = refl;
-      reading = all_set IsReading requests i done reads.reading (done_reading a.kind a.flow (same_flow ∙ over_here));
-      over = over_without s.asked s.ends q reads.over;
-      seen = reads.seen;
-      count = reads.count;
-    }
+          (h.0, subst (λ o. IsLeft (blocks_in o) h.0 (gathered without p)) (sym (done.others p other)) (subst (IsLeft (blocks_in (asked_at requests p)) h.0) (sym (gathered_still p other)) h.1))
+          ))
+
+      pub end_taken : AreRead nothing_handed requests_done without
+      end_taken = record {
+        found = found_done;
+        left = left_done;
+        handed = nobody_handed requests_done without 0 refl (over_without s.asked s.ends q reads.over) (left_done 0);
+        reading = all_written requests requests_done q None done IsReadingIn reads.reading tt;
+        over = over_without s.asked s.ends q reads.over;
+        seen = reads.seen;
+        count = reads.count;
+      }

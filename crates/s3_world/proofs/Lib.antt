@@ -4,12 +4,15 @@ pub mod Clients
 pub mod Counts
 pub mod Delivers
 pub mod Drains
+pub mod Empty
 pub mod Ends
 pub mod Follows
+pub mod Forgets
 pub mod Getting
 pub mod Handing
 pub mod Heard
 pub mod Keeping
+pub mod Kept
 pub mod Listed
 pub mod Objects
 pub mod Opens

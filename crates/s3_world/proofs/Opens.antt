@@ -1,8 +1,6 @@
 -- A request begins: two steps of the world, and one more request with its record.
 use Rattle.std.proofs.Common.{◌≡◌, ℕ, suc, ◌<◌, true, None, Some, [], ◌∷◌, ◌++◌, length, refl, ap, sym, ◌∙◌, subst, add-one}
-use Rattle.std.specs.Prelude.{map}
-use Rattle.std.specs.List.{AllByRecursion}
-use Rattle.std.proofs.lemmas.List.{length_push, length-map, map_push}
+use Rattle.std.proofs.lemmas.List.{length_push}
 use Rattle.crdt_rows.specs.declared.any_row.AnyRow.{AnyRow}
 use Rattle.crdt_rows.specs.AnyRow.{any_join}
 use Rattle.object_schema.specs.declared.schema.S3Schema.{S3Schema}
@@ -19,17 +17,17 @@ use Rattle.flow_model.specs.declared.flow.Flow.{Flow}
 use Rattle.flow_model.specs.Flow.{started}
 use Rattle.store_model.specs.declared.event.Told.{Told}
 use Rattle.store_model.specs.Orders.{kind_of}
-use Rattle.store_model.specs.Run.{State, plainly, phases, opened, new_request, began_with}
+use Rattle.store_model.specs.Run.{State, Asked as Waiting, plainly, phases, opened, new_request, began_with}
 use Rattle.world_core.specs.declared.world.World.{World}
 use Rattle.world_core.specs.declared.report.Report.{Report}
 use Rattle.world_core.specs.Stands.{StandsFor, IsWorld, Steps, Overflows as WorldOverflows}
 use Rattle.s3_world.specs.declared.asked.Asked.{Asked}
 use Rattle.s3_world.specs.declared.driver.Driver.{Driver}
-use Rattle.s3_world.specs.Driven.{known, kept, IsSized, IsReady, IsDriven, HasRun, PlaysIf, OverflowsIf}
-use Rattle.s3_world.specs.Reads.{IsReadingAs, AreRead}
+use Rattle.s3_world.specs.Driven.{known_with, known, kept, IsSized, IsReady, IsDriven, HasRun, PlaysIf, OverflowsIf}
+use Rattle.s3_world.specs.Reads.{Writes, flow_in, IsReadingAs}
 use Rattle.s3_world.proofs.Phases.{IsGood, first_is_good}
-use Rattle.s3_world.proofs.Places.{all_push}
 use Rattle.s3_world.proofs.Counts.{same_count}
+use Rattle.s3_world.proofs.Kept.{all_written, known_pushed}
 use Rattle.s3_world.proofs.Reading.{begun_reads}
 use Rattle.s3_world.proofs.Follows.{as_driven}
 
@@ -66,7 +64,7 @@ module _ {F : Type 0} (old : Driver F) (node : ℕ) (order : Order) (block : ℕ
     begun s d m = is_first ∙ ap (λ q. started order q block) (the_number s d m) ∙ ap (started order (suc (length s.world.requests))) (sym m.1)
 
     pub opened_plays : (new : Driver F) (more : Report AnyRow) (told : Told) → Steps any_join words mid new.world more (Begin number phase) → new.ends ≡ old.ends →
-        new.requests ≡ old.requests ++ record { node = node; kind = kind_of order; flow = Some flow; found = None; blocks = None } ∷ [] → new.history.0 ≡ old.history.0 ++ began_with number node order ∷ [] →
+        Writes old.requests new.requests number (Some (record { node = node; kind = kind_of order; flow = Some flow; found = None; blocks = None })) → new.history.0 ≡ old.history.0 ++ began_with number node order ∷ [] →
         told.refused ≡ None → told.words ≡ One number → told.lines ≡ more.lines → PlaysIf (IsReady node block) old new told (λ s. opened s node order)
     opened_plays new more told second ends requests history refused words_are lines given s h m =
         let d : IsDriven old s = as_driven given old s h in
@@ -81,21 +79,20 @@ module _ {F : Type 0} (old : Driver F) (node : ℕ) (order : Order) (block : ℕ
         let t : State = (opened s node order).state in
         let first_flow : flow ≡ (started order q s.block).0 = ap (λ x. x.0) begins in
         let reading : IsReadingAs (kind_of order) None (Some flow) = subst (λ f. IsReadingAs (kind_of order) None (Some f)) (sym first_flow) (begun_reading order q s.block) in
-        let same_length : length old.requests ≡ length s.asked = sym (length-map old.requests known) ∙ (ap length d.requests ∙ length-map s.asked kept) in
+        let next : number ≡ suc (length s.asked) = count ∙ ap suc (sym h.reads.count) in
+        let writes : Writes old.requests new.requests (suc (length s.asked)) (Some fresh) = subst (λ q. Writes old.requests new.requests q (Some fresh)) next requests in
         let count_is : length t.world.requests ≡ q = same_count (here s) (phases q (started order q s.block).1) tt ∙ opened_count s.world node m.0 in
-        let read : AreRead given (old.requests ++ fresh ∷ []) t = begun_reads old.requests s t fresh (new_request node order (started order q s.block).0) refl refl refl reading same_length refl refl refl count_is given h.reads in
+        let asked : Waiting = new_request node order (started order q s.block).0 in
+        let known_is : known (Some fresh) ≡ kept (Some asked) = ap (known_with node (kind_of order)) (ap Some first_flow) in
         let sized : IsSized (Some flow) = subst (λ b. 0 < b) (sym (ap (λ (x : Flow × Phase AnyRow). x.0.block) is_first ∙ (first_is_good order number block).0)) has_bytes in
         record {
           stands = record {
             world = two.stands;
-            requests =
-                ap (map known) requests ∙ map_push known old.requests fresh ∙ ap (λ rs. rs ++ known fresh ∷ []) d.requests
-                ∙ ap (λ (f : Flow). map kept s.asked ++ record { node = node; kind = kind_of order; flow = Some f } ∷ []) first_flow
-                ∙ sym (map_push kept s.asked (new_request node order (started order q s.block).0));
+            requests = known_pushed old.requests new.requests s.asked fresh asked writes h.requests known_is;
             ends = ends ∙ d.ends;
             history = history ∙ ap (λ n. old.history.0 ++ began_with n node order ∷ []) count ∙ ap (λ h. h ++ began_with q node order ∷ []) d.history;
-            flows = subst (AllByRecursion (λ (a : Asked). IsSized a.flow)) (sym requests) (all_push (λ (a : Asked). IsSized a.flow) old.requests fresh d.flows sized);
-            reads = subst (λ rs. AreRead given rs t) (sym requests) read;
+            flows = all_written old.requests new.requests (suc (length s.asked)) (Some fresh) writes (λ o. IsSized (flow_in o)) h.flows sized;
+            reads = begun_reads old.requests new.requests s t fresh asked refl refl reading writes refl refl refl count_is given h.reads;
           };
           tells = record { refused = refused; words = words_are ∙ ap One count; lines = lines ∙ two.tells.lines };
           fits = ((one.stands.fits, one.spelled), ((two.stands.fits, two.spelled), tt));

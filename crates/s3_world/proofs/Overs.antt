@@ -1,5 +1,5 @@
 -- Requests that ended: each has one end, and waits for nothing.
-use Rattle.std.proofs.Common.{◌≡◌, ℕ, ◌+◌, ◌==◌, true, false, Some, None, List, [], ◌∷◌, ◌++◌, refl, sym, ap, ◌∙◌, subst}
+use Rattle.std.proofs.Common.{◌≡◌, ℕ, ◌-◌, ◌==◌, true, false, Option, Some, None, List, [], ◌∷◌, ◌++◌, refl, sym, ap, ◌∙◌, subst}
 use Rattle.std.specs.Prelude.{slice_set}
 use Rattle.std.proofs.lemmas.Bool.{eqb-true, eqb-false, eq-eqb}
 use Rattle.flow_model.specs.declared.flow.Flow.{Flow}
@@ -67,13 +67,6 @@ others_without (e ∷ es) q p other =
     (λ same. end_here e (without_end es q) p same ∙ sym (end_here e es p same))
     (λ no. end_past e (without_end es q) p no ∙ others_without es q p other ∙ sym (end_past e es p no)))
 
--- nothing goes where no end is
-pub without_none : (es : List (ℕ × FlowEnd)) (q : ℕ) → end_of es q ≡ None → without_end es q ≡ es
-without_none [] q none = refl
-without_none (e ∷ es) q none =
-    let other = not_here e es q none in
-    without_past e es q other ∙ ap (λ xs. e ∷ xs) (without_none es q (sym (end_past e es q other) ∙ none))
-
 module _ (asked : List Waiting) where
   -- ---- requests that are over
 
@@ -91,6 +84,14 @@ module _ (asked : List Waiting) where
       by_number e.0 q (IsOver (numbered asked q))
       (λ same. subst (λ p. IsOver (numbered asked p)) same over.0)
       (λ other. ended_is_over es q end over.2 (sym (end_past e es q other) ∙ is))
+
+  none_ended : (es : List (ℕ × FlowEnd)) (q : ℕ) (o : Option FlowEnd) → AreOver asked es → numbered asked q ≡ None → end_of es q ≡ o → o ≡ None
+  none_ended es q None over nobody is = refl
+  none_ended es q (Some end) over nobody is = absurd (subst IsOver nobody (ended_is_over es q end over is))
+
+  -- nor has a number that nobody asked under
+  pub nobody_ended : (es : List (ℕ × FlowEnd)) (q : ℕ) → AreOver asked es → numbered asked q ≡ None → end_of es q ≡ None
+  nobody_ended es q over nobody = none_ended es q (end_of es q) over nobody refl
 
   pub over_pushed : (es : List (ℕ × FlowEnd)) (q : ℕ) (end : FlowEnd) → AreOver asked es → IsOver (numbered asked q) → end_of es q ≡ None → AreOver asked (es ++ (q, end) ∷ [])
   over_pushed [] q end over here none = (here, refl, tt)
@@ -122,11 +123,11 @@ module _ (asked : List Waiting) where
 
   -- ---- another request changes, or one more is asked
 
-  pub over_set : (es : List (ℕ × FlowEnd)) (i q : ℕ) (m now : Waiting) (f : Flow) → i + 1 ≡ q → numbered asked q ≡ Some m → m.flow ≡ Some f → AreOver asked es → AreOver (slice_set asked i now) es
-  over_set [] i q m now f place at waits over = tt
-  over_set (e ∷ es) i q m now f place at waits over =
+  pub over_set : (es : List (ℕ × FlowEnd)) (q : ℕ) (m now : Waiting) (f : Flow) → numbered asked q ≡ Some m → m.flow ≡ Some f → AreOver asked es → AreOver (slice_set asked (q - 1) now) es
+  over_set [] q m now f at waits over = tt
+  over_set (e ∷ es) q m now f at waits over =
       let not_it : q ≡ e.0 → ⊥ = λ same. (let h : IsOver (Some m) = subst IsOver (ap (numbered asked) (sym same) ∙ at) over.0 in let no = sym waits ∙ h in absurd (cc)) in
-      (subst IsOver (sym (numbered_other asked i q e.0 now place not_it)) over.0, over.1, over_set es i q m now f place at waits over.2)
+      (subst IsOver (sym (numbered_other asked q e.0 m now at not_it)) over.0, over.1, over_set es q m now f at waits over.2)
 
   pub over_more : (es : List (ℕ × FlowEnd)) (m : Waiting) → AreOver asked es → AreOver (asked ++ m ∷ []) es
   over_more [] m over = tt

@@ -1,7 +1,6 @@
 -- A step of the world that concerns no requests but those that it ends.
 use Rattle.std.proofs.Common.{◌≡◌, ℕ, true, false, Option, Some, None, List, [], ◌∷◌, ◌++◌, refl, sym, ap, ◌∙◌, subst, append-nil}
 use Rattle.std.specs.Prelude.{Bool, not, is_some, map}
-use Rattle.std.specs.List.{AllByRecursion}
 use Rattle.crdt_rows.specs.declared.any_row.AnyRow.{AnyRow}
 use Rattle.crdt_rows.specs.AnyRow.{any_join}
 use Rattle.object_schema.specs.Schema.{words}
@@ -23,10 +22,9 @@ use Rattle.store_model.specs.Run.{Moving, State}
 use Rattle.store_model.specs.Acts.{plain, endings}
 use Rattle.world_core.specs.declared.report.Report.{Report}
 use Rattle.world_core.specs.Stands.{Steps, Tells}
-use Rattle.s3_world.specs.declared.asked.Asked.{Asked}
 use Rattle.s3_world.specs.declared.driver.Driver.{Driver}
-use Rattle.s3_world.specs.Driven.{known, IsSized, PlaysStep}
-use Rattle.s3_world.specs.Reads.{AreRead}
+use Rattle.s3_world.specs.Driven.{known, kept, IsSized, PlaysStep}
+use Rattle.s3_world.specs.Reads.{asked_at, flow_in, AreRead}
 use Rattle.s3_world.specs.Stands.{IsQuiet}
 use Rattle.s3_world.proofs.Counts.{OpensNone}
 use Rattle.s3_world.proofs.Reading.{reads_plain}
@@ -131,10 +129,10 @@ module _ {F : Type 0} (old new : Driver F) (st : Step AnyRow) (report : Report A
         does = record {
           stands = record {
             world = did.does.stands;
-            requests = ap (map known) requests ∙ d.requests;
+            requests = λ q. subst (λ rs. known (asked_at rs q) ≡ kept (numbered s.asked q)) (sym requests) (d.requests q);
             ends = ends ∙ d.ends;
             history = history s.world did.choice did.does.tells ∙ ap (λ rs. rs ++ endings st (does any_join words s.world m)) d.history;
-            flows = subst (AllByRecursion (λ (a : Asked). IsSized a.flow)) (sym requests) d.flows;
+            flows = subst (λ rs. (q : ℕ) → IsSized (flow_in (asked_at rs q))) (sym requests) d.flows;
             reads = subst (λ rs. AreRead given rs t) (sym requests) (reads_plain given old.requests s m t.history opens d.reads);
           };
           tells = record {

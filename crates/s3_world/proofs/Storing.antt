@@ -1,7 +1,6 @@
 -- What a call of its driver is to the store.
 use Rattle.std.proofs.Common.{◌≡◌, ℕ, suc, ◌<◌, ◌≤◌, Bool, true, Option, Some, None, List, [], ◌∷◌, ◌++◌, length, Result, Ok, Err, IfOk, refl, sym, ap, ◌∙◌, subst, arith}
 use Rattle.std.specs.Prelude.{IfSome, IfNone}
-use Rattle.std.proofs.lemmas.List.{length-map}
 use Rattle.crdt_core.specs.declared.memory.Memory.{Memory}
 use Rattle.crdt_rows.specs.declared.any_row.AnyRow.{AnyRow}
 use Rattle.cluster_machine.specs.declared.step.Step.{Step}
@@ -16,7 +15,7 @@ use Rattle.store_model.specs.Acts.{plain}
 use Rattle.s3_world.specs.declared.driver.Driver.{Driver}
 use Rattle.s3_world.specs.declared.world.S3World.{S3World}
 use Rattle.s3_world.specs.Driven as driven
-use Rattle.s3_world.specs.Driven.{known, kept, IsReady, IsHanding, IsDriven, HasRun}
+use Rattle.s3_world.specs.Driven.{IsReady, IsHanding, IsDriven, HasRun}
 use Rattle.s3_world.specs.Reads.{Handed, of, HasAll}
 use Rattle.s3_world.specs.Doing as doing
 use Rattle.s3_world.specs.Stands.{Holds, IsStore, IsGiving, HasStore, Becomes, Keeps as KeepsGiven, KeepsTold, KeepsIf, KeepsStep, Overflows, OverflowsIf, OverflowsStep}
@@ -56,27 +55,25 @@ has_bytes c h = subst (λ b. 0 < b) (sym h.1.block) h.1.sized
 
 -- of a request that is to come nothing was handed out
 pub gives_none : (c : S3World) (s : State) → IsStore c s → IsGiving c s (suc (length s.world.requests)) []
-gives_none c s d =
-    let same_length : length c.driver.requests ≡ length s.asked = sym (length-map c.driver.requests known) ∙ (ap length d.requests ∙ length-map s.asked kept) in
-    record {
-      world = d.world;
-      buckets = d.buckets;
-      block = d.block;
-      requests = d.requests;
-      ends = d.ends;
-      history = d.history;
-      sized = d.sized;
-      flows = d.flows;
-      reads = record {
-        found = d.reads.found;
-        left = d.reads.left;
-        handed = number_to_come c.driver.requests s same_length d.reads.count;
-        reading = d.reads.reading;
-        over = d.reads.over;
-        seen = d.reads.seen;
-        count = d.reads.count;
-      };
-    }
+gives_none c s d = record {
+  world = d.world;
+  buckets = d.buckets;
+  block = d.block;
+  requests = d.requests;
+  ends = d.ends;
+  history = d.history;
+  sized = d.sized;
+  flows = d.flows;
+  reads = record {
+    found = d.reads.found;
+    left = d.reads.left;
+    handed = number_to_come c.driver.requests s d.reads;
+    reading = d.reads.reading;
+    over = d.reads.over;
+    seen = d.reads.seen;
+    count = d.reads.count;
+  };
+}
 
 module _ (old : S3World) (new : Driver ObjectFlows) where
   -- the store after the call

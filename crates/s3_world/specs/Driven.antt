@@ -1,7 +1,7 @@
 -- When the driver of requests stands for a state of the model, whatever its buckets and its size of blocks are, and what a call of it does.
-use Rattle.std.specs.Prelude.{◌≡◌, ◌==◌, ◌<◌, ◌+◌, ℕ, ⊤, Bool, true, if◌then◌else◌, Option, Some, None, List, [], ◌∷◌, ◌++◌, map, position, slice_get, slice_set}
+use Rattle.std.specs.Prelude.{◌≡◌, ◌==◌, ◌<◌, ℕ, ⊤, Bool, true, if◌then◌else◌, Option, Some, None, List, [], ◌∷◌, ◌++◌, option_map, position}
+use Rattle.std.specs.BTreeMap.{BTreeMap}
 use Rattle.std.specs.Option.{option_and_then}
-use Rattle.std.specs.List.{AllByRecursion}
 use Rattle.crdt_rows.specs.declared.any_row.AnyRow.{AnyRow}
 use Rattle.crdt_rows.specs.AnyRow.{any_join}
 use Rattle.object_schema.specs.Schema.{words}
@@ -22,30 +22,34 @@ use Rattle.world_core.specs.declared.report.Report.{Report}
 use Rattle.world_core.specs.Stands.{StandsFor, Steps}
 use Rattle.s3_world.specs.declared.asked.Asked.{Asked}
 use Rattle.s3_world.specs.declared.driver.Driver.{Driver}
-use Rattle.s3_world.specs.Reads.{Handed, nothing_handed, AreRead}
+use Rattle.s3_world.specs.Reads.{Handed, nothing_handed, asked_at, flow_in, Writes, AreRead}
 use Rattle.s3_world.specs.Doing as doing
 
--- where a request is, what it does, and what it waits for
+-- where a request is that waits for something, what it does, and what it waits for
 pub record Known : Type 0 where
   pub node : ℕ
   pub kind : Kind
-  pub flow : Option Flow
+  pub flow : Flow
+
+-- nothing of one that waits for nothing
+abbrev pub known_with : ℕ → Kind → Option Flow → Option Known
+known_with node kind flow = option_map (λ (f : Flow). record { node = node; kind = kind; flow = f }) flow
 
 -- of a request of the code
-abbrev pub known : Asked → Known
-known a = record { node = a.node; kind = a.kind; flow = a.flow }
+abbrev pub known : Option Asked → Option Known
+known asked = option_and_then (λ (a : Asked). known_with a.node a.kind a.flow) asked
 
 -- of a request of the model
-abbrev pub kept : Waiting → Known
-kept m = record { node = m.node; kind = m.kind; flow = m.flow }
+abbrev pub kept : Option Waiting → Option Known
+kept asked = option_and_then (λ (m : Waiting). known_with m.node m.kind m.flow) asked
 
 -- what a request needs of its client, by what it waits for
 abbrev pub needs_of : Asked → Option ℕ
 needs_of a = option_and_then need_of a.flow
 
 -- the same of the request with a number
-abbrev pub needed_of : List Asked → ℕ → Option ℕ
-needed_of requests q = option_and_then needs_of (numbered requests q)
+abbrev pub needed_of : BTreeMap ℕ Asked → ℕ → Option ℕ
+needed_of requests q = option_and_then needs_of (asked_at requests q)
 
 -- the place of the end of a request among the ends
 abbrev pub place_in : List (ℕ × FlowEnd) → ℕ → Option ℕ
@@ -61,13 +65,13 @@ abbrev pub IsReady : ℕ → ℕ → State → Type 0
 IsReady n size s = (is_member_at layouts s.world n ≡ true) × (s.block ≡ size)
 
 module _ {F : Type 0} where
-  -- the driver's world, requests, ends and history are those of this state, and these bytes were handed out
+  -- the driver's world, ends and history are those of this state, of each request that waits for something it knows the same, and these bytes were handed out
   pub record IsHanding (given : Handed) (d : Driver F) (s : State) : Type 0 where
     pub world : StandsFor any_join words d.world s.world
-    pub requests : map known d.requests ≡ map kept s.asked
+    pub requests : (q : ℕ) → known (asked_at d.requests q) ≡ kept (numbered s.asked q)
     pub ends : d.ends ≡ s.ends
     pub history : d.history.0 ≡ s.history
-    pub flows : AllByRecursion (λ (a : Asked). IsSized a.flow) d.requests
+    pub flows : (q : ℕ) → IsSized (flow_in (asked_at d.requests q))
     pub reads : AreRead given d.requests s
 
   -- the driver stands for this state, whatever was handed out
@@ -125,17 +129,23 @@ module _ {F : Type 0} where
     pub rest : new ≡ record old { world = new.world; ends = old.ends ++ (q, end) ∷ []; history = record { 0 = old.history.0 ++ record_of q end ∷ [] } }
     pub tells : told ≡ record { refused = None; words = Empty; lines = if heard then lines_of_end q kind end else [] }
 
-  -- request q at place i began this phase in the world and waits so; the phase's lines are told
-  pub record Begins (old new : Driver F) (told : Told) (i q : ℕ) (flow : Flow) (phase : Phase AnyRow) : Type 0 where
+  -- request q waits so
+  pub record Waits (old new : Driver F) (q : ℕ) (flow : Flow) : Type 0 where
+    pub waits : (a : Asked) → asked_at old.requests q ≡ Some a → Writes old.requests new.requests q (Some (record a { flow = Some flow }))
+    pub rest : new ≡ record old { requests = new.requests }
+
+  -- request q began this phase in the world and waits so; the phase's lines are told
+  pub record Begins (old new : Driver F) (told : Told) (q : ℕ) (flow : Flow) (phase : Phase AnyRow) : Type 0 where
     pub report : Report AnyRow
     pub begins : Steps any_join words old.world new.world report (step.Phase q phase)
-    pub rest : (a : Asked) → slice_get old.requests i ≡ Some a → new ≡ record old { world = new.world; requests = slice_set old.requests i (record a { flow = Some flow }) }
+    pub waits : (a : Asked) → asked_at old.requests q ≡ Some a → Writes old.requests new.requests q (Some (record a { flow = Some flow }))
+    pub rest : new ≡ record old { world = new.world; requests = new.requests }
     pub tells : told ≡ record { refused = None; words = Empty; lines = report.lines }
 
-  -- what request q, at place i, waited for was taken from it
-  pub record TakesFlow (old new : Driver F) (q i : ℕ) (flow : Flow) : Type 0 where
+  -- what request q waited for was taken from it
+  pub record TakesFlow (old new : Driver F) (q : ℕ) (flow : Flow) : Type 0 where
     pub asked : Asked
-    pub place : i + 1 ≡ q
-    pub there : slice_get old.requests i ≡ Some asked
+    pub there : asked_at old.requests q ≡ Some asked
     pub waits : asked.flow ≡ Some flow
-    pub rest : new ≡ record old { requests = slice_set old.requests i (record asked { flow = None }) }
+    pub takes : Writes old.requests new.requests q (Some (record asked { flow = None }))
+    pub rest : new ≡ record old { requests = new.requests }

@@ -1,6 +1,8 @@
 -- What is kept of what gets have read: what they found, and the blocks that wait to be handed out.
-use Rattle.std.specs.Prelude.{◌≡◌, ◌≤◌, ℕ, ⊤, true, Option, Some, None, List, [], ◌∷◌, ◌++◌, length}
+use Rattle.std.specs.Prelude.{◌≡◌, ◌≤◌, ◌==◌, ◌&&◌, ℕ, ⊤, Bool, true, false, not, is_some, Option, Some, None, List, [], ◌∷◌, ◌++◌, length}
+use Rattle.std.specs.BTreeMap.{BTreeMap, get}
 use Rattle.std.specs.Option.{option_and_then, option_or}
+use Rattle.std.specs.Ordering.{nat_cmp}
 use Rattle.std.specs.List.{AllByRecursion, concat}
 use Rattle.crdt_rows.specs.declared.version.Version.{Version}
 use Rattle.crdt_rows.specs.declared.body.Meta.{Meta}
@@ -34,6 +36,19 @@ of q bytes = record { request = q; bytes = bytes }
 abbrev pub nothing_handed : Handed
 nothing_handed = of 0 []
 
+-- what is kept of the request with a number
+abbrev pub asked_at : BTreeMap ℕ Asked → ℕ → Option Asked
+asked_at requests q = get nat_cmp requests q
+
+-- of request q this is kept now, and of the others what was
+pub record Writes (old new : BTreeMap ℕ Asked) (q : ℕ) (now : Option Asked) : Type 0 where
+  pub here : asked_at new q ≡ now
+  pub others : (p : ℕ) → (q ≡ p → ⊥) → asked_at new p ≡ asked_at old p
+
+-- what it waits for
+abbrev pub flow_in : Option Asked → Option Flow
+flow_in asked = option_and_then (λ (a : Asked). a.flow) asked
+
 -- the object that is kept as found
 abbrev pub found_in : Option Asked → Option (Version × Meta)
 found_in asked = option_and_then (λ (a : Asked). a.found) asked
@@ -52,9 +67,14 @@ abbrev pub HasNoBlock : Option (List (List ℕ)) → Type 0
 HasNoBlock None = ⊤
 HasNoBlock (Some blocks) = blocks ≡ []
 
+-- a block waits
+abbrev pub has_block : Option (List (List ℕ)) → Bool
+has_block None = false
+has_block (Some blocks) = not (length blocks == 0)
+
 -- of the request these bytes were handed out
-abbrev pub IsHanded : List Asked → State → Handed → Type 0
-IsHanded requests s given = IsLeft (blocks_in (numbered requests given.request)) given.bytes (gathered s given.request)
+abbrev pub IsHanded : BTreeMap ℕ Asked → State → Handed → Type 0
+IsHanded requests s given = IsLeft (blocks_in (asked_at requests given.request)) given.bytes (gathered s given.request)
 
 -- the blocks that wait, with one that came
 abbrev pub with_block : Option (List (List ℕ)) → List ℕ → Option (List (List ℕ))
@@ -96,10 +116,24 @@ IsReadingAs kind blocks flow = blocks ≡ None
 abbrev pub IsReading : Asked → Type 0
 IsReading a = IsReadingAs a.kind a.blocks a.flow
 
+-- the same, where anything is kept of it
+abbrev pub IsReadingIn : Option Asked → Type 0
+IsReadingIn None = ⊤
+IsReadingIn (Some a) = IsReading a
+
 -- a request that ended waits for nothing
 abbrev pub IsOver : Option Waiting → Type 0
 IsOver None = ⊥
 IsOver (Some m) = m.flow ≡ None
+
+-- the request waits for nothing, found nothing, and has no blocks
+abbrev pub is_done : Asked → Bool
+is_done a = not (is_some a.flow) && not (is_some a.found) && not (is_some a.blocks)
+
+-- it isn't so, if anything is kept of the request
+abbrev pub IsNeeded : Option Asked → Type 0
+IsNeeded None = ⊤
+IsNeeded (Some a) = is_done a ≡ false
 
 -- requests whose ends weren't taken are over, and each has one end
 abbrev pub AreOver : List Waiting → List (ℕ × FlowEnd) → Type 0
@@ -107,11 +141,11 @@ AreOver asked [] = ⊤
 AreOver asked (e ∷ es) = IsOver (numbered asked e.0) × (end_of es e.0 ≡ None) × AreOver asked es
 
 -- what is kept of what the requests of this state read, of which these bytes were handed out
-pub record AreRead (given : Handed) (requests : List Asked) (s : State) : Type 0 where
-  pub found : (q : ℕ) → found_in (numbered requests q) ≡ found_by s q
+pub record AreRead (given : Handed) (requests : BTreeMap ℕ Asked) (s : State) : Type 0 where
+  pub found : (q : ℕ) → found_in (asked_at requests q) ≡ found_by s q
   pub left : (q : ℕ) → (bytes : List ℕ) × IsHanded requests s (of q bytes)
   pub handed : IsHanded requests s given
-  pub reading : AllByRecursion IsReading requests
+  pub reading : (q : ℕ) → IsReadingIn (asked_at requests q)
   pub over : AreOver s.asked s.ends
   pub seen : AllByRecursion (λ (e : Saw). e.request ≤ length s.asked) s.saw
   pub count : length s.asked ≡ length s.world.requests

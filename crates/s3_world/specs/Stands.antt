@@ -1,6 +1,5 @@
 -- When the code's store stands for a state of the model, and what an act does to it.
-use Rattle.std.specs.Prelude.{◌≡◌, ◌<◌, ◌≤◌, ℕ, ⊤, Some, None, List, [], Result, Ok, Err, length, map}
-use Rattle.std.specs.List.{AllByRecursion}
+use Rattle.std.specs.Prelude.{◌≡◌, ◌<◌, ◌≤◌, ℕ, ⊤, Some, None, List, [], Result, Ok, Err, length}
 use Rattle.crdt_rows.specs.declared.any_row.AnyRow.{AnyRow}
 use Rattle.crdt_rows.specs.AnyRow.{any_join}
 use Rattle.object_schema.specs.Schema.{words}
@@ -11,6 +10,7 @@ use Rattle.layout_roles.specs.declared.cut.Cut.{Cut}
 use Rattle.cluster_machine.specs.declared.step.Refusal.{Refusal}
 use Rattle.cluster_machine.specs.declared.step.Words.TheVariants.{One}
 use Rattle.cluster_machine.specs.Choices.{Decision}
+use Rattle.cluster_machine.specs.World.{numbered}
 use Rattle.cluster_machine.specs.Worlds.{IsMeant, FitAll}
 use Rattle.flow_model.specs.declared.order.Order.{Order}
 use Rattle.store_model.specs.declared.event.Event.{Event}
@@ -21,10 +21,9 @@ use Rattle.store_model.specs.Acts.{Act, asks, acted, IsLawfulAct}
 use Rattle.store_model.specs.Events.{act_of, outcome}
 use Rattle.store_model.specs.Turns.{FitsOutcome}
 use Rattle.world_core.specs.Stands.{StandsFor}
-use Rattle.s3_world.specs.declared.asked.Asked.{Asked}
 use Rattle.s3_world.specs.declared.world.S3World.{S3World}
 use Rattle.s3_world.specs.Driven.{known, kept, IsSized}
-use Rattle.s3_world.specs.Reads.{Handed, of, nothing_handed, AreRead}
+use Rattle.s3_world.specs.Reads.{Handed, of, nothing_handed, asked_at, flow_in, AreRead}
 use Rattle.s3_world.specs.Doing as doing
 pub use Rattle.s3_world.specs.Doing.{Tells}
 
@@ -33,11 +32,11 @@ pub record Holds (given : Handed) (c : S3World) (s : State) : Type 0 where
   pub world : StandsFor any_join words c.driver.world s.world
   pub buckets : c.buckets ≡ s.buckets
   pub block : c.block ≡ s.block
-  pub requests : map known c.driver.requests ≡ map kept s.asked
+  pub requests : (q : ℕ) → known (asked_at c.driver.requests q) ≡ kept (numbered s.asked q)
   pub ends : c.driver.ends ≡ s.ends
   pub history : c.driver.history.0 ≡ s.history
   pub sized : 0 < s.block
-  pub flows : AllByRecursion (λ (a : Asked). IsSized a.flow) c.driver.requests
+  pub flows : (q : ℕ) → IsSized (flow_in (asked_at c.driver.requests q))
   pub reads : AreRead given c.driver.requests s
 
 -- the code's store is this state of the model, whatever was handed out

@@ -4,7 +4,7 @@ ghost use Rattle.crdt_core.specs.Outcomes.{OnlyWant};
 ghost use Rattle.flow_model.specs.Streams.{need_of as need_of_flow};
 ghost use Rattle.store_model.specs.Gets.{object_given as object_of_end};
 ghost use Rattle.s3_world.specs.Driven.{needs_of};
-ghost use Rattle.s3_world.specs.Reads.{heard, after_phase, with_block as one_more, HasNoBlock};
+ghost use Rattle.s3_world.specs.Reads.{heard, after_phase, with_block as one_more, has_block, is_done, HasNoBlock};
 
 use block_bytes::Block;
 use crdt_core::{List, Memory, Value};
@@ -147,6 +147,16 @@ impl Asked {
         self.flow = Some(flow);
     }
 
+    /// Whether a block of it waits to be handed out.
+    pub fn has_piece(&self) -> bool
+        ensures { result ≡ has_block self.now.blocks }
+    {
+        match &self.blocks {
+            Some(blocks) => !blocks.is_empty(),
+            None => false,
+        }
+    }
+
     /// Hands out the first of the blocks that wait.
     pub fn take_piece(&mut self) -> Option<Block>
         ensures piece { IfSome result (λ piece. (rest : Listed (Listed ℕ)) × (self.old.blocks ≡ Some (piece ∷ rest)) × (self.new ≡ record self.old { blocks = Some rest })) }
@@ -158,12 +168,18 @@ impl Asked {
         }
     }
 
-    /// Nothing more is kept of what it read: the blocks that wait.
-    pub fn take_blocks(&mut self) -> Option<List<Block>>
-        ensures blocks { result ≡ self.old.blocks }
-        ensures rest { self.new ≡ record self.old { found = None; blocks = None } }
+    /// The blocks that wait.
+    pub fn into_blocks(self) -> Option<List<Block>>
+        ensures { result ≡ self.blocks }
     {
-        self.found = None;
-        self.blocks.take()
+        let Asked { blocks, .. } = self;
+        blocks
+    }
+
+    /// Whether it waits for nothing, found nothing, and has no blocks.
+    pub fn is_over(&self) -> bool
+        ensures { result ≡ is_done self.now }
+    {
+        self.flow.is_none() && self.found.is_none() && self.blocks.is_none()
     }
 }

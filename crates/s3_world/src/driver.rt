@@ -1,5 +1,5 @@
 //! The driver of requests, over any flows: they are opened, taken from phase to phase, and ended, over a cluster.
-ghost use Rattle.std.specs.Prelude.{◌≡◌, [], ◌∷◌, ◌++◌, ◌<◌, ◌⊎◌, ◌+◌, ◌^◌, ℕ, List as Listed, length, map, option_map, slice_get, slice_set, IsSome, OnOk, IfOk, IfErr, IfSome, IfNone, Some, None};
+ghost use Rattle.std.specs.Prelude.{◌≡◌, [], ◌∷◌, ◌++◌, ◌<◌, ℕ, List as Listed, length, map, option_map, IsSome, OnOk, IfOk, IfSome, IfNone, Some, None};
 ghost use Rattle.std.specs.Option.{option_copied};
 ghost use Rattle.crdt_core.specs.Outcomes.{OnlyWant, WantOr};
 ghost use Rattle.blake2_hash.specs.Blake2b.{blake2b};
@@ -17,7 +17,7 @@ ghost use Rattle.store_model.specs.Run.{State, start as nothing_yet, opened, fol
 ghost use Rattle.store_model.specs.Acts.{acted, takes, end_of, without_end};
 ghost use Rattle.store_model.specs.Gets.{found_by, body_of};
 ghost use Rattle.s3_world.specs.Driven.{place_in, needed_of};
-ghost use Rattle.s3_world.specs.Reads.{IsLeft, HasAll, with_first, of};
+ghost use Rattle.s3_world.specs.Reads.{Handed, IsLeft, HasAll, IsNeeded, Writes, asked_at, blocks_in, with_first, of};
 
 use crate::answers::{lines_of, record_of};
 use crate::asked::Asked;
@@ -32,6 +32,7 @@ use history_model::{Cause, History, Kind, Record};
 use object_bytes::Pieces;
 use object_schema::S3Schema;
 use std::alloc::Global;
+use std::collections::BTreeMap;
 use store_model::Told;
 use wire_messages::{Phase, PhaseEnd};
 use world_core::World;
@@ -43,24 +44,12 @@ pub struct Driver<F: Flows> {
     pub world: World<S3Schema>,
     /// The records of all requests, the oldest first.
     pub history: History,
-    /// Request q is at place q - 1.
-    requests: List<Asked>,
+    /// Those that aren't over, by their numbers: they wait for something, or what they read waits to be taken.
+    requests: BTreeMap<u64, Asked>,
     /// How requests ended by themselves, until that is taken.
     ends: List<(u64, FlowEnd)>,
     flows: F,
     alloc: Global,
-}
-
-// The place of a number from 1, among this many.
-fn place(number: u64, count: usize) -> Option<usize>
-    ensures found { IfSome result (λ i. (i + 1 ≡ number) × (i < count)) }
-    ensures none { IfNone result ((number ≡ 0) ⊎ (count < number)) }
-{
-    if number >= 1 && number <= count as u64 {
-        Some((number - 1) as usize)
-    } else {
-        None
-    }
 }
 
 // The end of a request, with the bytes that wait to be handed out in place of all bytes, where blocks of them came.
@@ -119,8 +108,7 @@ fn push_lost(history: &mut List<Record>, lost: &[u64]) -> Result<(), Memory>
 
 impl<F: Flows> Driver<F> {
     ghost use Rattle.flow_model.specs.declared.flow.Flow.{Flow};
-    ghost use Rattle.s3_world.specs.declared.asked.Asked.{Asked as Requested};
-    ghost use Rattle.s3_world.specs.Driven.{IsDriven, IsHanding, HasRun, IsReady, Becomes, Plays, PlaysHeard, PlaysIf, PlaysStep, Overflows, OverflowsIf, OverflowsStep, Finishes, Begins, TakesFlow};
+    ghost use Rattle.s3_world.specs.Driven.{IsDriven, IsHanding, HasRun, IsReady, Becomes, Plays, PlaysHeard, PlaysIf, PlaysStep, Overflows, OverflowsIf, OverflowsStep, Finishes, Begins, TakesFlow, Waits};
 
     /// Nothing has happened.
     pub fn new(alloc: Global, flows: F) -> Result<Driver<F>, Memory>
@@ -130,7 +118,7 @@ impl<F: Flows> Driver<F> {
         Ok(Driver {
             world: World::new(alloc)?,
             history: History(List::new(alloc)),
-            requests: List::new(alloc),
+            requests: BTreeMap::new(alloc),
             ends: List::new(alloc),
             flows,
             alloc,
@@ -141,8 +129,7 @@ impl<F: Flows> Driver<F> {
     pub fn found(&self, request: u64) -> Option<(Version, &Meta)>
         ensures { (s : State) → IsDriven self.now s → option_map (λ found. (found.0, found.1.now)) result ≡ found_by s request }
     {
-        let i = place(request, self.requests.len())?;
-        match &self.requests.at(i).found {
+        match &self.requests.get(&request)?.found {
             Some((version, meta)) => Some((*version, meta)),
             None => None,
         }
@@ -164,8 +151,12 @@ impl<F: Flows> Driver<F> {
         ensures none { IfNone result (self.new ≡ self.old) }
         ensures all { IfNone result ((s : State) (bytes : Listed ℕ) → IsHanding (of request bytes) self.old s → HasAll s request bytes) }
     {
-        let i = place(request, self.requests.len())?;
-        self.requests.at_mut(i).take_piece()
+        let asked = self.requests.get(&request)?;
+        if asked.has_piece() {
+            self.requests.get_mut(&request)?.take_piece()
+        } else {
+            None
+        }
     }
 
     /// How a request ended by itself. None where it never began, is open, was expired or lost by a restart, or its end was
@@ -175,10 +166,22 @@ impl<F: Flows> Driver<F> {
         ensures end { (s : State) (bytes : Listed ℕ) → IsHanding (of request bytes) self.old s → with_first bytes result ≡ end_of s.ends request }
         ensures taken { Becomes self.old self.new (λ s. acted s (takes request)) }
     {
-        let i = place(request, self.requests.len())?;
         let at = place_of(self.ends.as_slice(), request)?;
         let end = self.ends.remove(at).1;
-        Some(with_left(end, self.requests.at_mut(i).take_blocks()))
+        let blocks = self.take_blocks(request);
+        Some(with_left(end, blocks))
+    }
+
+    // The blocks of a request that wait. Nothing is kept of it then.
+    fn take_blocks(&mut self, request: u64) -> Option<List<Block>>
+        ensures blocks { result ≡ blocks_in (asked_at self.old.requests request) }
+        ensures gone { Writes self.old.requests self.new.requests request None }
+        ensures rest { self.new ≡ record self.old { requests = self.new.requests } }
+    {
+        match self.requests.remove(&request) {
+            Some(asked) => asked.into_blocks(),
+            None => None,
+        }
     }
 
     /// A request begins at a member with its first phase, where blocks have this size in bytes.
@@ -194,7 +197,7 @@ impl<F: Flows> Driver<F> {
         let began = began_with(number, node, &order)?;
         let (flow, phase) = self.flows.start(self.alloc, order, number, block)?;
         let report = self.world.step(Step::Phase(number, phase))?;
-        self.requests.push(Asked::new(node, kind, flow))?;
+        let _ = self.requests.insert(number, Asked::new(node, kind, flow))?;
         self.history.0.push(began)?;
         Ok(Told {
             refused: None,
@@ -208,9 +211,9 @@ impl<F: Flows> Driver<F> {
     pub fn need(&self, request: u64) -> Option<u64>
         ensures { (s : State) → IsDriven self.now s → result ≡ need_at s request }
     {
-        let i = place(request, self.requests.len())?;
+        let asked = self.requests.get(&request)?;
         if self.world.is_open(request) {
-            self.requests.at(i).need()
+            asked.need()
         } else {
             None
         }
@@ -223,9 +226,9 @@ impl<F: Flows> Driver<F> {
         ensures plays { IfOk result (λ told. Plays self.old self.new told (λ s. feeding s request block)) }
         ensures causes { WantOr result (Overflows self.old (λ s. feeding s request block)) }
     {
-        let (i, flow) = self.take_flow(request);
+        let flow = self.take_flow(request);
         let (flow, phase) = self.flows.block(self.alloc, flow, block)?;
-        self.begins(i, request, flow, phase)
+        self.begins(request, flow, phase)
     }
 
     /// A streamed upload is kept, all of whose bytes have come: its complete version is stored.
@@ -235,9 +238,9 @@ impl<F: Flows> Driver<F> {
         ensures plays { IfOk result (λ told. Plays self.old self.new told (λ s. keeping s request)) }
         ensures causes { WantOr result (Overflows self.old (λ s. keeping s request)) }
     {
-        let (i, flow) = self.take_flow(request);
+        let flow = self.take_flow(request);
         let (flow, phase) = self.flows.finish(self.alloc, flow)?;
-        self.begins(i, request, flow, phase)
+        self.begins(request, flow, phase)
     }
 
     /// A streamed upload is given up: that is stored.
@@ -247,23 +250,23 @@ impl<F: Flows> Driver<F> {
         ensures plays { IfOk result (λ told. Plays self.old self.new told (λ s. giving_up s request)) }
         ensures causes { WantOr result (Overflows self.old (λ s. giving_up s request)) }
     {
-        let (i, flow) = self.take_flow(request);
+        let flow = self.take_flow(request);
         let (flow, phase) = self.flows.abort(self.alloc, flow)?;
-        self.begins(i, request, flow, phase)
+        self.begins(request, flow, phase)
     }
 
-    // The place of a streamed upload that needs its client, and what it waits for, which is taken from it.
-    fn take_flow(&mut self, request: u64) -> (usize, Flow)
+    // What a streamed upload waits for that needs its client, which is taken from it.
+    fn take_flow(&mut self, request: u64) -> Flow
         requires { IsSome (needed_of self.old.requests request) }
-        ensures { TakesFlow self.old self.new request result.0 result.1 }
+        ensures { TakesFlow self.old self.new request result }
     {
-        let Some(i) = place(request, self.requests.len()) else {
+        let Some(asked) = self.requests.get_mut(&request) else {
             unreachable!()
         };
-        let Some(flow) = self.requests.at_mut(i).take_flow() else {
+        let Some(flow) = asked.take_flow() else {
             unreachable!()
         };
-        (i, flow)
+        flow
     }
 
     /// Ends a request that is open.
@@ -331,50 +334,63 @@ impl<F: Flows> Driver<F> {
         ensures plays { IfOk result (λ told. PlaysHeard heard self.old self.new told (λ s. follow s request (numbered s.asked request) end)) }
         ensures causes { WantOr result (Overflows self.old (λ s. follow s request (numbered s.asked request) end)) }
     {
-        let Some(i) = place(request, self.requests.len()) else {
+        let Some(asked) = self.requests.get_mut(&request) else {
             return Ok(accepted(List::new(self.alloc)));
         };
-        let asked = self.requests.at_mut(i);
         let (node, kind) = (asked.node, asked.kind);
         let Some(flow) = asked.hears(self.alloc, &end)? else {
             return Ok(accepted(List::new(self.alloc)));
         };
         let now = self.world.clock(node);
         match self.flows.next(self.alloc, flow, end, now)? {
-            FlowStep::More(flow, phase) => self.begins(i, request, flow, phase),
+            FlowStep::More(flow, phase) => self.begins(request, flow, phase),
             FlowStep::Need(flow, _) | FlowStep::Wait(flow) => {
-                self.waits(i, flow);
+                self.waits(request, flow);
                 Ok(accepted(List::new(self.alloc)))
             }
-            FlowStep::End(end) => self.finishes(request, kind, end, heard),
+            FlowStep::End(end) => {
+                let told = self.finishes(request, kind, end, heard)?;
+                self.forgets(request);
+                Ok(told)
+            }
         }
     }
 
-    // The request at a place waits so.
-    fn waits(&mut self, i: usize, flow: Flow)
-        requires { i < length self.old.requests }
-        ensures { (a : Requested) → slice_get self.old.requests i ≡ Some a → self.new ≡ record self.old { requests = slice_set self.old.requests i (record a { flow = Some flow }) } }
+    // A request waits so.
+    fn waits(&mut self, request: u64, flow: Flow)
+        requires { IsSome (asked_at self.old.requests request) }
+        ensures { Waits self.old self.new request flow }
     {
-        self.requests.at_mut(i).waits(flow);
+        let Some(asked) = self.requests.get_mut(&request) else {
+            unreachable!()
+        };
+        asked.waits(flow);
     }
 
-    // The request at a place begins its next phase.
-    fn begins(
-        &mut self,
-        i: usize,
-        request: u64,
-        flow: Flow,
-        phase: Phase<AnyRow>,
-    ) -> Result<Told, Memory>
+    // Keeps nothing of a request that is over, where nothing that it read waits to be taken.
+    fn forgets(&mut self, request: u64)
+        ensures same { (given : Handed) (s : State) → IsHanding given self.old s → IsHanding given self.new s }
+        ensures needed { IsNeeded (asked_at self.new.requests request) }
+    {
+        let Some(asked) = self.requests.get(&request) else {
+            return;
+        };
+        if asked.is_over() {
+            let _ = self.requests.remove(&request);
+        }
+    }
+
+    // A request begins its next phase.
+    fn begins(&mut self, request: u64, flow: Flow, phase: Phase<AnyRow>) -> Result<Told, Memory>
         requires stands { IsWorld any_join words self.old.world }
-        requires there { i < length self.old.requests }
+        requires there { IsSome (asked_at self.old.requests request) }
         requires short { IsShort phase }
         requires stocked { BringsBlocks (blake2b 32) words phase }
-        ensures begins { IfOk result (λ told. Begins self.old self.new told i request flow phase) }
+        ensures begins { IfOk result (λ told. Begins self.old self.new told request flow phase) }
         ensures causes { WantOr result (WorldOverflows any_join words self.old.world (step.Phase request phase)) }
     {
         let report = self.world.step(Step::Phase(request, phase))?;
-        self.waits(i, flow);
+        self.waits(request, flow);
         Ok(accepted(report.lines))
     }
 

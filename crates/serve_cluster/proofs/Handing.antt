@@ -6,7 +6,7 @@ use Rattle.cluster_machine.specs.World.{numbered}
 use Rattle.store_model.specs.Run.{State, Asked}
 use Rattle.store_model.specs.Gets.{gathered}
 use Rattle.s3_world.specs.declared.world.S3World.{S3World}
-use Rattle.s3_world.specs.Reads.{IsLeft, IsOver, AreOver, blocks_in}
+use Rattle.s3_world.specs.Reads.{IsLeft, IsOver, AreOver, asked_at, blocks_in}
 use Rattle.s3_world.specs.Stands.{IsStore, IsGiving}
 use Rattle.get_laws.specs.OnTheWay.{KnowsRequests}
 
@@ -50,4 +50,4 @@ rest_left (Some blocks) given bytes h = (concat blocks, h)
 
 -- what was handed out is the first of what came
 pub bytes_left : (c : S3World) (s : State) (q : ℕ) (given : List ℕ) → IsGiving c s q given → (rest : List ℕ) × (given ++ rest ≡ gathered s q)
-bytes_left c s q given h = rest_left (blocks_in (numbered c.driver.requests q)) given (gathered s q) h.reads.handed
+bytes_left c s q given h = rest_left (blocks_in (asked_at c.driver.requests q)) given (gathered s q) h.reads.handed

@@ -5,33 +5,33 @@ use Rattle.cluster_machine.specs.World.{numbered}
 use Rattle.store_model.specs.Run.{fills_at}
 use Rattle.s3_world.proofs.Causes.{same_causes}
 use Rattle.s3_world.proofs.Phases.{finished_is_good}
-use Rattle.s3_world.proofs.Clients.{need_is, world_is, place_is, heard_phase, heard_plays, heard_overflows}
+use Rattle.s3_world.proofs.Clients.{need_is, world_is, still_there, heard_phase, heard_plays, heard_overflows}
 use Rattle.s3_world.proofs.driver.Driver.finish.Goals as goal
 
 pub finish-requires : goal.finish-requires
-finish-requires g c = sym (need_is c.args.self.now c.take_flow-i.new.self c.args.request c.take_flow-i.result.0 c.take_flow-i.result.1 c.take_flow-i.ensures) ∙ c.requires.needed
+finish-requires g c = sym (need_is c.args.self.now c.take_flow-flow.new.self c.args.request c.take_flow-flow.result c.take_flow-flow.ensures) ∙ c.requires.needed
 
 pub begins-requires-clause-stands : goal.begins-requires-clause-stands
-begins-requires-clause-stands g c = world_is c.args.self.now c.take_flow-i.new.self c.args.request c.take_flow-i.result.0 c.take_flow-i.result.1 c.take_flow-i.ensures c.requires.stands
+begins-requires-clause-stands g c = world_is c.args.self.now c.take_flow-flow.new.self c.args.request c.take_flow-flow.result c.take_flow-flow.ensures c.requires.stands
 
 pub begins-requires-clause-there : goal.begins-requires-clause-there
-begins-requires-clause-there g c = place_is c.args.self.now c.take_flow-i.new.self c.args.request c.take_flow-i.result.0 c.take_flow-i.result.1 c.take_flow-i.ensures
+begins-requires-clause-there g c = still_there c.args.self.now c.take_flow-flow.new.self c.args.request c.take_flow-flow.result c.take_flow-flow.ensures
 
 pub begins-requires-clause-short : goal.begins-requires-clause-short
-begins-requires-clause-short g c = (heard_phase c.take_flow-i.result.1 stream.finished c.in_ok-flow.flow c.in_ok-flow.phase c.in_ok-flow.ensures.is (finished_is_good c.take_flow-i.result.1)).short
+begins-requires-clause-short g c = (heard_phase c.take_flow-flow.result stream.finished c.in_ok-flow.flow c.in_ok-flow.phase c.in_ok-flow.ensures.is (finished_is_good c.take_flow-flow.result)).short
 
 pub begins-requires-clause-stocked : goal.begins-requires-clause-stocked
-begins-requires-clause-stocked g c = (heard_phase c.take_flow-i.result.1 stream.finished c.in_ok-flow.flow c.in_ok-flow.phase c.in_ok-flow.ensures.is (finished_is_good c.take_flow-i.result.1)).stocked
+begins-requires-clause-stocked g c = (heard_phase c.take_flow-flow.result stream.finished c.in_ok-flow.flow c.in_ok-flow.phase c.in_ok-flow.ensures.is (finished_is_good c.take_flow-flow.result)).stocked
 
 pub returns-clause-plays : goal.returns-clause-plays
 returns-clause-plays g c =
-    heard_plays c.take_flow-i.result.1 stream.finished c.in_ok-flow.flow c.in_ok-flow.phase c.in_ok-flow.ensures.is (finished_is_good c.take_flow-i.result.1)
-    c.args.self.now c.take_flow-i.new.self c.args.request c.take_flow-i.result.0 c.take_flow-i.ensures (subst IsSome (sym c.requires.needed) refl) (λ s. fills_at s c.args.request (numbered s.asked c.args.request) ++ s.draws)
+    heard_plays c.take_flow-flow.result stream.finished c.in_ok-flow.flow c.in_ok-flow.phase c.in_ok-flow.ensures.is (finished_is_good c.take_flow-flow.result)
+    c.args.self.now c.take_flow-flow.new.self c.args.request c.take_flow-flow.ensures (subst IsSome (sym c.requires.needed) refl) (λ s. fills_at s c.args.request (numbered s.asked c.args.request) ++ s.draws)
     c.begins.new.self c.begins.result c.begins.ensures.begins
 
 pub returns-clause-causes : goal.returns-clause-causes
 returns-clause-causes g c =
     same_causes c.begins.result
-    (heard_overflows c.take_flow-i.result.1 stream.finished c.in_ok-flow.flow c.in_ok-flow.phase c.in_ok-flow.ensures.is (finished_is_good c.take_flow-i.result.1)
-    c.args.self.now c.take_flow-i.new.self c.args.request c.take_flow-i.result.0 c.take_flow-i.ensures (subst IsSome (sym c.requires.needed) refl) (λ s. fills_at s c.args.request (numbered s.asked c.args.request) ++ s.draws))
+    (heard_overflows c.take_flow-flow.result stream.finished c.in_ok-flow.flow c.in_ok-flow.phase c.in_ok-flow.ensures.is (finished_is_good c.take_flow-flow.result)
+    c.args.self.now c.take_flow-flow.new.self c.args.request c.take_flow-flow.ensures (subst IsSome (sym c.requires.needed) refl) (λ s. fills_at s c.args.request (numbered s.asked c.args.request) ++ s.draws))
     c.begins.ensures.causes

@@ -1,5 +1,7 @@
-use Rattle.std.proofs.Common.{refl, [], ◌∷◌, ◌++◌, Some, None, ap, ◌∙◌}
+use Rattle.std.proofs.Common.{refl, [], ◌∷◌, ◌++◌, Some, None, ap, ◌∙◌, subst}
 use Rattle.s3_world.proofs.Causes.{handed_on}
+use Rattle.s3_world.specs.Reads.{Writes}
+use Rattle.s3_world.proofs.Kept.{updated}
 use Rattle.s3_world.proofs.Opens.{opened_stands, opened_overflows, opened_plays, first_phase}
 use Rattle.s3_world.proofs.driver.Driver.opened.Goals as goal
 
@@ -22,5 +24,6 @@ pub returns-clause-plays : goal.returns-clause-plays
 returns-clause-plays g c =
     opened_plays c.args.self.now c.args.node c.args.order c.args.block c.step.new.self c.in_ok-step.field-0 c.in_ok-step.ensures.steps c.requests-number.result c.in_ok-flow.flow c.in_ok-flow.phase c.requires.sized c.in_ok-flow.ensures.is c.requests-number.ensures
     _ c.in_ok-report.report _ c.in_ok-report.ensures.steps refl
-    (c.in_ok-push.ensures.ok ∙ ap (λ a. c.args.self.now.requests ++ a ∷ []) c.new.ensures ∙ ap (λ kind. c.args.self.now.requests ++ (record { node = c.args.node; kind = kind; flow = Some c.in_ok-flow.flow; found = None; blocks = None }) ∷ []) c.kind_of-kind.ensures)
-    (c.in_ok-push-2.ensures.ok ∙ ap (λ r. c.args.self.now.history.0 ++ r ∷ []) c.in_ok-began.ensures.is) refl refl refl
+    (subst (λ a. Writes c.args.self.now.requests c.insert.new.self c.requests-number.result (Some a)) (c.new.ensures ∙ ap (λ kind. record { node = c.args.node; kind = kind; flow = Some c.in_ok-flow.flow; found = None; blocks = None }) c.kind_of-kind.ensures)
+    (updated c.args.self.now.requests c.insert.new.self c.requests-number.result (Some c.new.result) c.in_ok-insert.ensures.updates))
+    (c.in_ok-push.ensures.ok ∙ ap (λ r. c.args.self.now.history.0 ++ r ∷ []) c.in_ok-began.ensures.is) refl refl refl
