@@ -1,3 +1,4 @@
+mod Lines
 pub mod Takings
 pub mod Cuts
 pub mod Searches

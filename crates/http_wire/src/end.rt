@@ -11,7 +11,10 @@ pub const HEAD_LIMIT: usize = 16384;
 fn ends_in_empty_line(front: &[u8]) -> bool
     ensures { result ≡ is_line_end front.now }
 {
-    front.ends_with(b"\n\n") || front.ends_with(b"\n\r\n")
+    match front.last() {
+        Some(b'\n') => front.ends_with(b"\n\n") || front.ends_with(b"\n\r\n"),
+        _ => false,
+    }
 }
 
 /// There was text, or this byte is neither a carriage return nor a line feed.
