@@ -1,8 +1,8 @@
 //! Gets of an object that is kept in three blocks, which are written as they come: the answers are those that were worked
 //! out by hand from docs/S3.md, whatever the range, and the cluster ends up the same wherever the link fails.
-use crate::faulty::{Fault, FaultyLink};
+use crate::faulty::{Call, Fault, FaultyLink};
 use crate::recorder::recorded;
-use crate::served::{Ended, served_with};
+use crate::served::{Ended, ONE_CONNECTION, served_with};
 use lab_outside::Status;
 use std::alloc::Global;
 use std::test::Fail;
@@ -114,7 +114,7 @@ fn asked(alloc: Global, object: &[u8], ask: &[u8]) -> Result<Vec<u8>, Fail> {
 fn answer_to(alloc: Global, ask: &[u8]) -> Result<(Status, Vec<u8>), Fail> {
     let bytes = asked(alloc, &object(alloc)?, ask)?;
     let mut link = recorded(alloc, &bytes, 65_536)?;
-    let end = served_with(alloc, SMALL_BLOCKS, 3900, &mut link)?;
+    let end = served_with(alloc, SMALL_BLOCKS, ONE_CONNECTION, &mut link)?;
     let answer = match link.written().strip_prefix(PUT_ANSWER) {
         Some(answer) => answer,
         None => return Err("the put".into()),
@@ -125,9 +125,13 @@ fn answer_to(alloc: Global, ask: &[u8]) -> Result<(Status, Vec<u8>), Fail> {
 /// A server over a connection of whose writes one fails, which gets the object: how it ended, and how many writes were tried.
 fn write_fails(alloc: Global, number: u64) -> Result<(Ended, u64), Fail> {
     let bytes = asked(alloc, &object(alloc)?, b"GET /pics/a HTTP/1.1\r\n\r\n")?;
-    let mut link = FaultyLink::new(alloc, bytes, Fault::Write(number));
-    let end = served_with(alloc, SMALL_BLOCKS, 3900, &mut link)?;
-    Ok((end, link.writes()))
+    let fault = Fault {
+        call: Call::Write,
+        number,
+    };
+    let mut link = FaultyLink::new(alloc, &bytes, 65_536, fault)?;
+    let end = served_with(alloc, SMALL_BLOCKS, ONE_CONNECTION, &mut link)?;
+    Ok((end, link.calls()))
 }
 
 /// What a get of this range is to be answered.

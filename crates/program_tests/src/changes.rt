@@ -1,20 +1,20 @@
 //! What no clause says of a server with layout changes to come: that an answer comes with ample memory, and the numbers of
 //! messages, rows and blocks that were worked out by hand from the steps of a change (docs/FORMATS.md).
 use crate::recorder::recorded;
-use lab_outside::{MemClock, MemSink, MemSource, Status};
-use serve_run::{Server, run_server};
+use crate::served::{ONE_CONNECTION, Session, served_with};
+use lab_outside::Status;
 use std::alloc::Global;
 use std::test::Fail;
 
 /// An object is put and read.
-const PUT_AND_GET: &[u8] = b"\
+pub const PUT_AND_GET: &[u8] = b"\
     PUT /pics/a.txt HTTP/1.1\r\n\
     Content-Length: 3\r\n\r\n\
     abc\
     GET /pics/a.txt HTTP/1.1\r\n\r\n";
 
 /// The answers to both.
-const PUT_AND_GET_ANSWERS: &[u8] = b"\
+pub const PUT_AND_GET_ANSWERS: &[u8] = b"\
     HTTP/1.1 200 OK\r\n\
     Date: Tue, 14 Nov 2023 22:13:20 GMT\r\n\
     Content-Length: 0\r\n\
@@ -29,7 +29,7 @@ const PUT_AND_GET_ANSWERS: &[u8] = b"\
     abc";
 
 /// A change to three other nodes after one request.
-const TO_NEW_NODES: &[u8] = b"\
+pub const TO_NEW_NODES: &[u8] = b"\
     [[change]]\n\
     after = 1\n\
     [[change.node]]\n\
@@ -126,16 +126,8 @@ const BACK: &[u8] = b"\
     zone = 'c'\n\
     capacity = 1000\n";
 
-/// What a server of one connection did.
-#[derive(Drop)]
-struct Ended {
-    status: Status,
-    output: Vec<u8>,
-    written: Vec<u8>,
-}
-
 /// Three nodes with these changes to come.
-fn configuration(alloc: Global, changes: &[&[u8]]) -> Result<Vec<u8>, Fail> {
+pub fn configuration(alloc: Global, changes: &[&[u8]]) -> Result<Vec<u8>, Fail> {
     let mut text = crate::served::THREE_NODES.to_vec(alloc)?;
     for change in changes {
         text.extend_from_slice(change)?;
@@ -144,19 +136,17 @@ fn configuration(alloc: Global, changes: &[&[u8]]) -> Result<Vec<u8>, Fail> {
 }
 
 /// A server of one connection that has these bytes, over three nodes with these changes to come.
-fn served(alloc: Global, changes: &[&[u8]], bytes: &[u8]) -> Result<Ended, Fail> {
-    let server = Server {
-        port: 3900,
-        count: 1,
-    };
+fn served(alloc: Global, changes: &[&[u8]], bytes: &[u8]) -> Result<Session, Fail> {
     let mut link = recorded(alloc, bytes, 65_536)?;
-    let mut clock = MemClock::new([1_700_000_000_000].to_vec(alloc)?);
-    let mut source = MemSource::new(configuration(alloc, changes)?, Vec::new(alloc));
-    let mut sink = MemSink::new(alloc, Vec::new(alloc));
-    let status = run_server(alloc, server, &mut source, &mut sink, &mut link, &mut clock);
-    Ok(Ended {
-        status,
-        output: sink.bytes().to_vec(alloc)?,
+    let end = served_with(
+        alloc,
+        &configuration(alloc, changes)?,
+        ONE_CONNECTION,
+        &mut link,
+    )?;
+    Ok(Session {
+        status: end.status,
+        output: end.output,
         written: link.written().to_vec(alloc)?,
     })
 }

@@ -6,6 +6,8 @@ mod blocks;
 #[cfg(test)]
 mod changes;
 #[cfg(test)]
+mod conversations;
+#[cfg(test)]
 mod faulty;
 #[cfg(test)]
 mod lent;

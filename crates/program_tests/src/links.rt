@@ -1,8 +1,9 @@
-//! A server over links that fail, and over a real one on loopback.
-use crate::faulty::{Fault, FaultyLink};
-use crate::recorder::Recorder;
-use crate::served::{Ended, ONE_ANSWERS, ONE_OBJECT, are_first_answers, served_over};
-use lab_outside::{Link, PieceLink, Status, TcpLink};
+//! A server whose configuration can't be read or whose lines can't be written, and one on loopback.
+use crate::recorder::recorded;
+use crate::served::{
+    Ended, ONE_ANSWERS, ONE_CONNECTION, ONE_OBJECT, THREE_NODES, served_from, served_over,
+};
+use lab_outside::{Link, MemSink, MemSource, Status, TcpLink};
 use std::alloc::Global;
 use std::io::{Read, Write};
 use std::net::{Ipv4Addr, TcpListener, TcpStream};
@@ -18,36 +19,15 @@ const NO_KEY: &[u8] = b"\
     <?xml version=\"1.0\" encoding=\"UTF-8\"?>\n\
     <Error><Code>NoSuchKey</Code><Message>NoSuchKey</Message><Resource>/pics/a</Resource></Error>";
 
-/// Whether the output begins with the layout and the first node's rows.
-fn is_begun(output: &[u8]) -> bool {
-    output.starts_with(b"p 0 255 1 2 3\nnode 1 rows ")
-}
-
-/// A server over a connection whose read with this number fails: how it ended, whether its output begins as it should, and
-/// whether the answers do.
-fn read_fails(alloc: Global, number: u64) -> Result<(Status, bool, bool), Fail> {
-    let bytes = ONE_OBJECT.to_vec(alloc)?;
-    let pieces = PieceLink::new(bytes, 100, [number].to_vec(alloc)?);
-    let mut link = Recorder::new(alloc, pieces);
-    let end = served_over(alloc, 3900, &mut link)?;
-    let begins = ONE_ANSWERS.starts_with(link.written());
-    Ok((end.status, is_begun(&end.output), begins))
-}
-
-/// A server over a connection whose write with this number fails: how it ended, whether its output begins as it should, how
-/// many writes were tried, and whether whole answers were written.
-fn write_fails(alloc: Global, number: u64) -> Result<(Status, bool, u64, bool), Fail> {
-    let mut link = FaultyLink::new(alloc, ONE_OBJECT.to_vec(alloc)?, Fault::Write(number));
-    let end = served_over(alloc, 3900, &mut link)?;
-    let are_whole = are_first_answers(link.written());
-    Ok((end.status, is_begun(&end.output), link.writes(), are_whole))
-}
-
-/// A server whose wait for a connection fails, and how many writes were tried.
-fn wait_fails(alloc: Global) -> Result<(Ended, u64), Fail> {
-    let mut link = FaultyLink::new(alloc, ONE_OBJECT.to_vec(alloc)?, Fault::Next);
-    let end = served_over(alloc, 3900, &mut link)?;
-    Ok((end, link.writes()))
+/// A server whose read of the configuration and whose write of its lines with these numbers fail, none where it is 0: how it
+/// ended, and whether the object's answers were written.
+fn edge_fails(alloc: Global, read: u64, write: u64) -> Result<(Ended, bool), Fail> {
+    let mut link = recorded(alloc, ONE_OBJECT, 65_536)?;
+    let source = MemSource::new(THREE_NODES.to_vec(alloc)?, [read].to_vec(alloc)?);
+    let sink = MemSink::new(alloc, [write].to_vec(alloc)?);
+    let end = served_from(alloc, ONE_CONNECTION, source, sink, &mut link)?;
+    let is_answered = link.written() == ONE_ANSWERS;
+    Ok((end, is_answered))
 }
 
 /// A server of one connection to this port of loopback.
@@ -91,40 +71,37 @@ fn asked_on(rt: &HostRuntime, port: u16) -> Result<(Ended, Vec<u8>), Fail> {
     Ok((end, answer_to(rt.alloc(), &mut client)?))
 }
 
-/// A read of the connection that fails ends the connection, with what was written before, and not the server.
+/// A read of the configuration that fails leaves nothing served and nothing written. Two reads give it and its end.
 #[test]
-fn each_read_fails(rt: HostRuntime) -> Result<(), Fail> {
-    for k in 1..=12 {
-        assert_eq!(rt;
-            read_fails(rt.alloc(), k)?,
-            (Status::Done, true, true),
-            "at read {k}"
-        );
+fn each_read_of_the_configuration_fails(rt: HostRuntime) -> Result<(), Fail> {
+    for read in 1..=2 {
+        let (end, is_answered) = edge_fails(rt.alloc(), read, 0)?;
+        assert_eq!(rt; (end.status, is_answered), (Status::ReadFault, false));
+        assert_eq!(rt; end.output.as_slice(), b"".as_slice());
     }
+    let (end, is_answered) = edge_fails(rt.alloc(), 3, 0)?;
+    assert_eq!(rt; (end.status, is_answered), (Status::Done, true));
     Ok(())
 }
 
-/// A write that fails ends the connection: the answers before it were written whole, nothing follows, and the server goes
-/// on to its own end. The interim line and seven answers are a write each.
+/// All was answered before the lines are written, of which a first part stands where a write fails.
 #[test]
-fn each_write_fails(rt: HostRuntime) -> Result<(), Fail> {
-    for k in 1..=8 {
-        assert_eq!(rt;
-            write_fails(rt.alloc(), k)?,
-            (Status::Done, true, k, true),
-            "at write {k}"
+fn each_write_of_the_lines_fails(rt: HostRuntime) -> Result<(), Fail> {
+    let (whole, _) = edge_fails(rt.alloc(), 0, 0)?;
+    for write in 1..=100 {
+        let (end, is_answered) = edge_fails(rt.alloc(), 0, write)?;
+        assert!(&rt;
+            is_answered && whole.output.starts_with(&end.output),
+            "at write {write}"
         );
+        if end.status == Status::Done {
+            assert!(&rt; write > 1 && end.output == whole.output);
+            return Ok(());
+        }
+        assert_eq!(rt; end.status, Status::WriteFault);
+        assert!(&rt; end.output.len() < whole.output.len());
     }
-    Ok(())
-}
-
-/// Waiting for a connection that fails ends the server: it says nothing, and its status is that of a link's fault.
-#[test]
-fn waiting_fails(rt: HostRuntime) -> Result<(), Fail> {
-    let (end, writes) = wait_fails(rt.alloc())?;
-    assert_eq!(rt; (end.status, writes), (Status::LinkFault, 0));
-    assert_eq!(rt; end.output.as_slice(), b"".as_slice());
-    Ok(())
+    Err("a hundred writes".into())
 }
 
 /// A port that somebody else listens on can't be opened: nothing is served, and nothing written.

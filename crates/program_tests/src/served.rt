@@ -8,6 +8,12 @@ use serve_run::{Server, run_server};
 use std::alloc::Global;
 use std::test::Fail;
 
+/// A server of one connection.
+pub const ONE_CONNECTION: Server = Server {
+    port: 3900,
+    count: 1,
+};
+
 /// Three nodes in three zones, each with the same room.
 pub const THREE_NODES: &[u8] = b"\
     buckets = ['pics']\n\
@@ -287,7 +293,7 @@ const COPIES_ANSWERS: &[u8] = b"\
 /// The connection ends before the announced body does.
 const SHORT_BODY: &[u8] = b"PUT /pics/a.txt HTTP/1.1\r\nContent-Length: 4\r\n\r\nabc";
 
-const SHORT_ANSWER: &[u8] = b"\
+pub const SHORT_ANSWER: &[u8] = b"\
     HTTP/1.1 400 Bad Request\r\n\
     Date: Tue, 14 Nov 2023 22:13:20 GMT\r\n\
     Content-Length: 146\r\n\
@@ -341,7 +347,7 @@ pub struct Ended {
 #[derive(Drop)]
 pub struct Session {
     pub status: Status,
-    output: Vec<u8>,
+    pub output: Vec<u8>,
     pub written: Vec<u8>,
 }
 
@@ -349,22 +355,34 @@ pub struct Session {
 pub fn served_over<L: Link>(alloc: Global, port: u16, link: &mut L) -> Result<Ended, Fail>
     requires { L.present link.old ≡ None }
 {
-    served_with(alloc, THREE_NODES, port, link)
+    served_with(alloc, THREE_NODES, Server { port, count: 1 }, link)
 }
 
-/// The same with this configuration.
+/// A server with this configuration.
 pub fn served_with<L: Link>(
     alloc: Global,
     configuration: &[u8],
-    port: u16,
+    server: Server,
     link: &mut L,
 ) -> Result<Ended, Fail>
     requires { L.present link.old ≡ None }
 {
-    let server = Server { port, count: 1 };
+    let source = MemSource::new(configuration.to_vec(alloc)?, Vec::new(alloc));
+    let sink = MemSink::new(alloc, Vec::new(alloc));
+    served_from(alloc, server, source, sink, link)
+}
+
+/// A server whose configuration comes from this source, and whose lines go to this sink.
+pub fn served_from<L: Link>(
+    alloc: Global,
+    server: Server,
+    mut source: MemSource,
+    mut sink: MemSink,
+    link: &mut L,
+) -> Result<Ended, Fail>
+    requires { L.present link.old ≡ None }
+{
     let mut clock = MemClock::new([1_700_000_000_000].to_vec(alloc)?);
-    let mut source = MemSource::new(configuration.to_vec(alloc)?, Vec::new(alloc));
-    let mut sink = MemSink::new(alloc, Vec::new(alloc));
     let status = run_server(alloc, server, &mut source, &mut sink, link, &mut clock);
     Ok(Ended {
         status,

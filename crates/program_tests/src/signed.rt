@@ -1,6 +1,6 @@
 //! A server with keys: which requests it carries out, and which refusal of two it answers.
 use crate::recorder::recorded;
-use crate::served::THREE_NODES;
+use crate::served::{ONE_CONNECTION, THREE_NODES, served_with};
 use crate::signed_copies::{BODIES, BUCKETS, COPIES};
 use crate::signed_gets::{METHODS, SIGNED_GET};
 use crate::signed_more_pairs::{
@@ -10,19 +10,12 @@ use crate::signed_pairs::{
     MALFORMED_PAIRS, TARGET_PAIRS, UNKNOWN_KEY_PAIRS, UNSERVED_PAIRS, UNSIGNED_PAIRS,
 };
 use crate::signed_refusals::Pair;
-use lab_outside::{MemClock, MemSink, MemSource, Status};
-use serve_run::{Server, run_server};
+use lab_outside::Status;
 use std::alloc::Global;
 use std::test::Fail;
 
 /// What comes over one connection, and what is written to it.
 pub type Row = (&'static [u8], &'static [u8]);
-
-/// A server of one connection.
-const ONE_CONNECTION: Server = Server {
-    port: 3900,
-    count: 1,
-};
 
 /// Two buckets, of which each key has other lists.
 const KEYS: &[u8] = b"\
@@ -53,7 +46,7 @@ const KEYS: &[u8] = b"\
     write = []\n";
 
 /// The configuration of three nodes with the two buckets and the keys.
-fn configuration(alloc: Global) -> Result<Vec<u8>, Fail> {
+pub fn configuration(alloc: Global) -> Result<Vec<u8>, Fail> {
     let mut text = b"buckets = ['pics', 'docs']\n".to_vec(alloc)?;
     text.extend_from_slice(nodes())?;
     text.extend_from_slice(KEYS)?;
@@ -71,18 +64,8 @@ fn nodes() -> &'static [u8] {
 /// How a server with the keys ends on one connection that has these bytes, and what is written to it.
 fn session(alloc: Global, bytes: &[u8]) -> Result<(Status, Vec<u8>), Fail> {
     let mut link = recorded(alloc, bytes, 65_536)?;
-    let mut clock = MemClock::new([1_700_000_000_000].to_vec(alloc)?);
-    let mut source = MemSource::new(configuration(alloc)?, Vec::new(alloc));
-    let mut sink = MemSink::new(alloc, Vec::new(alloc));
-    let status = run_server(
-        alloc,
-        ONE_CONNECTION,
-        &mut source,
-        &mut sink,
-        &mut link,
-        &mut clock,
-    );
-    Ok((status, link.written().to_vec(alloc)?))
+    let end = served_with(alloc, &configuration(alloc)?, ONE_CONNECTION, &mut link)?;
+    Ok((end.status, link.written().to_vec(alloc)?))
 }
 
 /// Whether a row is answered as it is written.
@@ -222,23 +205,15 @@ fn refusal(alloc: Global, more: &[u8]) -> Result<(Status, Vec<u8>), Fail> {
     text.extend_from_slice(more)?;
     text.extend_from_slice(nodes())?;
     let mut link = recorded(alloc, b"", 16)?;
-    let mut clock = MemClock::new([1_700_000_000_000].to_vec(alloc)?);
-    let mut source = MemSource::new(text, Vec::new(alloc));
-    let mut sink = MemSink::new(alloc, Vec::new(alloc));
-    let status = run_server(
-        alloc,
-        ONE_CONNECTION,
-        &mut source,
-        &mut sink,
-        &mut link,
-        &mut clock,
-    );
-    Ok((status, sink.bytes().to_vec(alloc)?))
+    let end = served_with(alloc, &text, ONE_CONNECTION, &mut link)?;
+    Ok((end.status, end.output))
 }
 
 /// What stands in a configuration, and its refusal: the fields before the region and the key come first, and the region
-/// before the key; the layout after both.
-const CONFIGURATIONS: [Row; 4] = [
+/// before the key; the layout after both. What isn't UTF-8 is no TOML.
+const CONFIGURATIONS: [Row; 6] = [
+    (b"region = '\xff'\n", b"bad toml\n"),
+    (b"# \x80\nregion = 'A'\n", b"bad toml\n"),
     (b"region = 'A'\nkey = 1\n", b"bad field region\n"),
     (
         b"key = [{id = 'a', secret = 'b', read = [], write = ['docs']}]\n",

@@ -1,8 +1,8 @@
 //! Puts of 3,072 bytes and more, which come block by block: the answers, the rows and blocks that nodes have at the end, and
 //! the number of messages are those that were worked out by hand, also of a put that is given up.
-use crate::faulty::{Fault, FaultyLink};
+use crate::faulty::{Call, Fault, FaultyLink};
 use crate::recorder::{Recorder, recorded};
-use crate::served::{Ended, served_with};
+use crate::served::{Ended, ONE_CONNECTION, served_with};
 use lab_outside::{PieceLink, Status};
 use std::alloc::Global;
 use std::test::Fail;
@@ -61,20 +61,20 @@ const NO_BUCKET: &[u8] = b"\
     <Error><Code>NoSuchBucket</Code><Message>NoSuchBucket</Message><Resource>/no/a</Resource></Error>";
 
 /// The answer to a put, up to its ETag.
-const STORED: &[u8] = b"\
+pub const STORED: &[u8] = b"\
     HTTP/1.1 200 OK\r\n\
     Date: Tue, 14 Nov 2023 22:13:20 GMT\r\n\
     Content-Length: 0\r\n\
     ETag: \"";
 
 /// The answer to a get, up to its length.
-const FOUND: &[u8] = b"\
+pub const FOUND: &[u8] = b"\
     HTTP/1.1 200 OK\r\n\
     Date: Tue, 14 Nov 2023 22:13:20 GMT\r\n\
     Content-Length: ";
 
 /// What follows its ETag.
-const SAID: &[u8] = b"\"\r\n\
+pub const SAID: &[u8] = b"\"\r\n\
     Last-Modified: Tue, 14 Nov 2023 22:13:20 GMT\r\n\
     Content-Type: application/octet-stream\r\n\
     Accept-Ranges: bytes\r\n\r\n";
@@ -97,11 +97,17 @@ const DELETED: &[u8] = b"\
 /// The MD5 of `abc` as a header.
 const DIGEST_OF_ABC: &[u8] = b"Content-MD5: kAFQmDzST7DWlj99KOF/cg==\r\n";
 
+/// The first write fails.
+const FIRST_WRITE: Fault = Fault {
+    call: Call::Write,
+    number: 1,
+};
+
 /// A get of the object.
-const GET: &[u8] = b"GET /pics/a HTTP/1.1\r\n\r\n";
+pub const GET: &[u8] = b"GET /pics/a HTTP/1.1\r\n\r\n";
 
 /// Texts, one after the other.
-fn joined(alloc: Global, texts: &[&[u8]]) -> Result<Vec<u8>, Fail> {
+pub fn joined(alloc: Global, texts: &[&[u8]]) -> Result<Vec<u8>, Fail> {
     let mut whole = Vec::new(alloc);
     for text in texts {
         whole.extend_from_slice(text)?;
@@ -116,7 +122,7 @@ fn followed(mut first: Vec<u8>, second: &[u8]) -> Result<Vec<u8>, Fail> {
 }
 
 /// So many bytes: byte i is the letter that is i modulo 23 after `a`.
-fn body(alloc: Global, size: usize) -> Result<Vec<u8>, Fail> {
+pub fn body(alloc: Global, size: usize) -> Result<Vec<u8>, Fail> {
     let mut bytes = Vec::new(alloc);
     for _ in 0..400 {
         bytes.extend_from_slice(b"abcdefghijklmnopqrstuvw")?;
@@ -126,19 +132,24 @@ fn body(alloc: Global, size: usize) -> Result<Vec<u8>, Fail> {
 }
 
 /// The configuration with this size of blocks in bytes.
-fn cluster(alloc: Global, block_size: &[u8]) -> Result<Vec<u8>, Fail> {
+pub fn cluster(alloc: Global, block_size: &[u8]) -> Result<Vec<u8>, Fail> {
     joined(alloc, &[b"block_size = ", block_size, NODES])
 }
 
 /// How a server ended over the connection with these bytes, and what was written to it.
 fn answered(alloc: Global, block_size: &[u8], bytes: &[u8]) -> Result<(Ended, Vec<u8>), Fail> {
     let mut link = recorded(alloc, bytes, 65_536)?;
-    let end = served_with(alloc, &cluster(alloc, block_size)?, 3900, &mut link)?;
+    let end = served_with(
+        alloc,
+        &cluster(alloc, block_size)?,
+        ONE_CONNECTION,
+        &mut link,
+    )?;
     Ok((end, link.written().to_vec(alloc)?))
 }
 
 /// A put under `/pics/a` that announces this length, with these lines in its head, and so much of its body.
-fn put(alloc: Global, length: &[u8], lines: &[u8], came: usize) -> Result<Vec<u8>, Fail> {
+pub fn put(alloc: Global, length: &[u8], lines: &[u8], came: usize) -> Result<Vec<u8>, Fail> {
     let head: &[u8] = b"PUT /pics/a HTTP/1.1\r\nContent-Length: ";
     joined(
         alloc,
@@ -362,7 +373,7 @@ fn read_fails(alloc: Global, number: u64) -> Result<(Ended, Vec<u8>), Fail> {
     let bytes = put(alloc, b"8192", b"", 8192)?;
     let pieces = PieceLink::new(bytes, 1000, [number].to_vec(alloc)?);
     let mut link = Recorder::new(alloc, pieces);
-    let end = served_with(alloc, &cluster(alloc, b"4096")?, 3900, &mut link)?;
+    let end = served_with(alloc, &cluster(alloc, b"4096")?, ONE_CONNECTION, &mut link)?;
     Ok((end, link.written().to_vec(alloc)?))
 }
 
@@ -395,9 +406,10 @@ fn put_refused_for_its_bucket(rt: HostRuntime) -> Result<(), Fail> {
 #[test]
 fn answer_to_a_put_fails(rt: HostRuntime) -> Result<(), Fail> {
     let bytes = put(rt.alloc(), b"4097", b"", 4097)?;
-    let mut link = FaultyLink::new(rt.alloc(), bytes, Fault::Write(1));
-    let end = served_with(rt.alloc(), &cluster(rt.alloc(), b"4096")?, 3900, &mut link)?;
-    assert_eq!(rt; (link.writes(), link.written()), (1, b"".as_slice()));
+    let configuration = cluster(rt.alloc(), b"4096")?;
+    let mut link = FaultyLink::new(rt.alloc(), &bytes, 65_536, FIRST_WRITE)?;
+    let end = served_with(rt.alloc(), &configuration, ONE_CONNECTION, &mut link)?;
+    assert_eq!(rt; (link.calls(), link.written()), (1, b"".as_slice()));
     assert!(rt; ends_so(&end, b"rows 4 blocks 2 top ", b"\nend 1 1 42\n"));
     Ok(())
 }
