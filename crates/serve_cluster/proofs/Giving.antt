@@ -33,7 +33,8 @@ use Rattle.serve_loop.specs.declared.storage.Got.{Got}
 use Rattle.serve_loop.specs.declared.storage.Got.TheVariants as got
 use Rattle.serve_loop.specs.Gets.{found_now, with_piece, bytes_of, with_given, GaveAll}
 use Rattle.serve_cluster.specs.Acting.{LedTo, KeepsActs, LacksRoom, IsDrained, TakesEnd}
-use Rattle.serve_cluster.specs.Giving.{IsOpened, HasTold, HasGiven, GivesMore, Ended}
+use Rattle.serve_cluster.specs.declared.getting.Getting.{Getting}
+use Rattle.serve_cluster.specs.Giving.{IsOpened, HasTold, HasGiven, GivesMore, Ended, HandsOut, is_object}
 use Rattle.serve_cluster.proofs.Handing.{bytes_left}
 use Rattle.serve_cluster.proofs.Acting.{acts_lawful, acts_fit, led_more, led_store, lacks_act, lacks_first, lacks_after}
 use Rattle.serve_cluster.proofs.Draining.{drains_parts, fits_parts, fits_among}
@@ -187,6 +188,68 @@ module _ (old : S3World) (q : ℕ) (acts : List Act) (s : State) (so_far : Optio
       let whole = given_whole k.node k.name k.flow k.end k.seen g left.0 k.at all (left.1 ∙ came) in
       let found : given_by t q ≡ Some (record { version = g.version; meta = g.meta; bytes = gathered_so asked k.end }) = ap (λ x. given_as x (gathered t q)) h.told_is.2 ∙ ap (λ bytes. Some (record { version = g.version; meta = g.meta; bytes = bytes })) came in
       subst (λ so. GaveAll so (given_by t q) (end_of t.ends q)) (sym h.told_is.1) (subst (λ x. GaveAll (Some g) x (end_of t.ends q)) (sym found) (subst (GaveAll (Some g) (Some (record { version = g.version; meta = g.meta; bytes = gathered_so asked k.end }))) (sym k.end_is) whole))
+
+-- ---- what is told of a get
+
+-- what was found, however the code has it
+pub found_as : {A B : Type 0} (f : A → B) (result x : Option A) (found : Option B) → option_map f result ≡ found → result ≡ x → found ≡ option_map f x
+found_as f result x found e is = sym e ∙ ap (λ r. option_map f r) is
+
+-- one that ended with an object gives it with its end
+gave_object : (end : Option FlowEnd) (so_far all : Option Given) → is_object end ≡ true → GaveAll so_far all end
+gave_object None so_far all e = cc
+gave_object (Some (Found version meta body)) so_far all e = tt
+gave_object (Some (Stored version meta)) so_far all e = cc
+gave_object (Some Nothing) so_far all e = cc
+gave_object (Some (Listed rows)) so_far all e = cc
+gave_object (Some (Superseded id)) so_far all e = cc
+gave_object (Some Aborted) so_far all e = cc
+
+-- one that found nothing gave all by giving nothing
+gave_nothing : (end : Option FlowEnd) → GaveAll None None end
+gave_nothing None = refl
+gave_nothing (Some (Found version meta body)) = tt
+gave_nothing (Some (Stored version meta)) = refl
+gave_nothing (Some Nothing) = refl
+gave_nothing (Some (Listed rows)) = refl
+gave_nothing (Some (Superseded id)) = refl
+gave_nothing (Some Aborted) = refl
+
+module _ (world : S3World) (g : Getting) (untold : g.told ≡ false) where
+  module _ (acts : List Act) (s : State) (so_far : Option Given) (h : HasGiven world g.request g.told acts s so_far) where
+    abbrev now : State
+    now = after_acts s acts
+
+    stands_now : IsStore world now
+    stands_now = as_store world now h.led.stands
+
+    gave_none : so_far ≡ None
+    gave_none = subst (λ told. HasTold told (found_by now g.request) so_far) untold h.told_is
+
+    told_now : (version : Version) (meta : Meta) → found_by now g.request ≡ Some (version, meta) → HasGiven world g.request true acts s (Some (found_now version meta))
+    told_now version meta found = record {
+      opened = h.opened;
+      leaves = h.leaves;
+      led = subst (λ so. LedTo (λ t. IsGiving world t g.request (bytes_of so)) s acts) gave_none h.led;
+      told_is = (found_now version meta, refl, found);
+    }
+
+    all_of_none : found_by now g.request ≡ None → GaveAll so_far (given_by now g.request) (end_of now.ends g.request)
+    all_of_none found =
+        let end : Option FlowEnd = end_of now.ends g.request in
+        subst (λ so. GaveAll so (given_by now g.request) end) (sym gave_none) (subst (λ x. GaveAll None (given_as x (gathered now g.request)) end) (sym found) (gave_nothing end))
+
+  pub tells_end : (is : Bool) → ((t : State) → IsStore world t → is ≡ is_object (end_of t.ends g.request)) → is ≡ true → HandsOut world world g g None
+  tells_end is ends ended_so = λ acts s so_far h.
+      let t = now acts s so_far h in
+      (h, gave_object (end_of t.ends g.request) so_far (given_by t g.request) (sym (ends t (stands_now acts s so_far h)) ∙ ended_so))
+
+  pub tells_found : (version : Version) (meta : Meta) → ((t : State) → IsStore world t → found_by t g.request ≡ Some (version, meta)) → HandsOut world world g (record g { told = true }) (Some (got.Found version meta))
+  tells_found version meta found = λ acts s so_far h.
+      (gave_none acts s so_far h, told_now acts s so_far h version meta (found (now acts s so_far h) (stands_now acts s so_far h)))
+
+  pub tells_nothing : ((t : State) → IsStore world t → found_by t g.request ≡ None) → HandsOut world world g g None
+  tells_nothing found = λ acts s so_far h. (h, all_of_none acts s so_far h (found (now acts s so_far h) (stands_now acts s so_far h)))
 
 -- ---- its end
 
