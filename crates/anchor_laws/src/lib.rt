@@ -52,7 +52,9 @@ use object_origins::{gone_versions_were_overwritten, rows_show_what_was_stored};
 /// that row needs, or what was collected there is at least it. This and the two laws below hold where no two strings that
 /// the run hashes for walks have one digest.
 pub fn kept_rows_have_their_blocks<R, L, A, C>()
-    ensures { (digest : List ℕ → List ℕ) (join : R → R → R) (s : Words R) (k : Layouts L) (trio : L) (trio_roles : List Role → List Role) (partitions : ℕ) (moves : List (Move R L A C)) →
+    ensures { (digest : List ℕ → List ℕ) (join : R → R →
+        R) (s : Words R) (k : Layouts L) (trio : L) (trio_roles : List Role →
+        List Role) (partitions : ℕ) (moves : List (Move R L A C)) →
         JoinLaws join → Laws join s → 1 ≤ partitions → IsLayout k partitions trio → k.reading.version trio ≡ 1 →
         IsRun join s k trio trio_roles partitions empty moves → NoClash (RunHashes s join k trio trio_roles empty moves) → All (λ m. StepBringsBlocks digest s m.step) moves →
         (row : R) → Contains (run join s k trio trio_roles empty moves).kept row →
@@ -66,7 +68,8 @@ pub fn kept_rows_have_their_blocks<R, L, A, C>()
 /// rows nor deleted references, and have beside each live reference its block: each live reference that was kept lies at
 /// two nodes, live and with its block, or its version is gone.
 pub fn kept_references_are_anchored<L, A, C>()
-    ensures { (digest : List ℕ → List ℕ) (k : Layouts L) (trio : L) (trio_roles : List Role → List Role) (partitions : ℕ) (moves : List (Move Row L A C)) →
+    ensures { (digest : List ℕ → List ℕ) (k : Layouts L) (trio : L) (trio_roles : List Role →
+        List Role) (partitions : ℕ) (moves : List (Move Row L A C)) →
         1 ≤ partitions → IsLayout k partitions trio → k.reading.version trio ≡ 1 →
         IsRun any_join words k trio trio_roles partitions empty moves → NoClash (RunHashes words any_join k trio trio_roles empty moves) → All (λ m. StepBringsBlocks digest words m.step) moves →
         All (λ m. All (λ r. deletes_nothing r ≡ true) (stored_by m.step)) moves →
@@ -85,7 +88,9 @@ pub fn kept_references_are_anchored<L, A, C>()
 /// was kept lies at two nodes, live and with its block, unless its version was begun to be stored aborted, or a newer
 /// version of the same object was begun to be stored complete.
 pub fn undeleted_references_are_anchored<L, A, C>()
-    ensures { (digest : List ℕ → List ℕ) (k : Layouts L) (trio : L) (trio_roles : List Role → List Role) (partitions : ℕ) (moves : List (Move Row L A C)) (draw : ℕ → Option ((Hash32 × List ℕ) × Version)) →
+    ensures { (digest : List ℕ → List ℕ) (k : Layouts L) (trio : L) (trio_roles : List Role →
+        List Role) (partitions : ℕ) (moves : List (Move Row L A C)) (draw : ℕ →
+        Option ((Hash32 × List ℕ) × Version)) →
         1 ≤ partitions → IsLayout k partitions trio → k.reading.version trio ≡ 1 →
         IsRun any_join words k trio trio_roles partitions empty moves → NoClash (RunHashes words any_join k trio trio_roles empty moves) → All (λ m. StepBringsBlocks digest words m.step) moves →
         All (λ m. All (λ r. deletes_nothing r ≡ true) (stored_by m.step)) moves → AreDrawn (stored_in moves) draw →
@@ -133,5 +138,6 @@ pub fn a_block_goes_after_its_last_reference()
     ensures live { answer (put ++ plain (Tick 600000) ∷ []) (Work 1) ≡ Two 0 0 }
     ensures early { answer (put_and_deleted ++ plain (Tick 599999) ∷ []) (Work 1) ≡ Two 0 0 }
     ensures due { answer (put_and_deleted ++ plain (Tick 600000) ∷ []) (Work 1) ≡ Two 0 1 }
-    ensures gone { ((after (put_and_deleted ++ plain (Tick 600000) ∷ plain (Work 1) ∷ [])).nodes 1).blocks ≡ [] }
+    ensures gone { ((after (put_and_deleted ++ plain (Tick 600000) ∷ plain
+        (Work 1) ∷ [])).nodes 1).blocks ≡ [] }
 {}

@@ -54,7 +54,8 @@ use world_reads::{
 /// The lines of such turns can be heard: each event is the schedule's, and answers with words that it may; and each line of a
 /// request's end names one that an event's own line said to have begun, and tells of it what a request of its kind may.
 pub fn turns_can_be_heard()
-    ensures { (input : List ℕ) (events : List Numbered) (turns others : List Turn) → AreOfSchedule input events turns others →
+    ensures { (input : List ℕ) (events : List Numbered) (turns others : List Turn) →
+        AreOfSchedule input events turns others →
         TurnsCanBeHeard events [] start turns }
 {
     schedules_ascend();
@@ -64,7 +65,8 @@ pub fn turns_can_be_heard()
 
 /// Each key of a list's line is one of the grammar: it comes from a put or copy of the schedule.
 pub fn turns_tell_keys()
-    ensures { (turns others : List Turn) → AreAllowed turns → DifferInCuts turns others → ArePlayed others → TellKeyed start turns }
+    ensures { (turns others : List Turn) → AreAllowed turns → DifferInCuts turns others →
+        ArePlayed others → TellKeyed start turns }
 {
     every_world_is_sound::<S3Schema>();
     every_world_has_kept_reads::<S3Schema>();
@@ -78,7 +80,8 @@ pub fn turns_tell_keys()
 /// All that the text of such turns says is in its ranges: numbers are those of the code, keys those of the grammar, and a
 /// request answers with what its kind may.
 pub fn texts_speak_in_range()
-    ensures { (input : List ℕ) (events : List Numbered) (turns others : List Turn) → AreOfSchedule input events turns others →
+    ensures { (input : List ℕ) (events : List Numbered) (turns others : List Turn) →
+        AreOfSchedule input events turns others →
         TellOrderly start turns → AllByRecursion IsInRange (transcript_says turns) }
 {
     schedules_are_within_limits();
@@ -96,11 +99,14 @@ pub fn texts_speak_in_range()
 /// turns, but for the identifiers of superseded ends. So where no digests of walks or of buckets' names clash, and what the
 /// turns collect is collected in time, an account that is read of it is fresh.
 pub fn texts_give_their_history()
-    ensures spelled { (input : List ℕ) (events : List Numbered) (turns others : List Turn) → AreOfSchedule input events turns others →
+    ensures spelled { (input : List ℕ) (events : List Numbered) (turns others : List Turn) →
+        AreOfSchedule input events turns others →
         TellOrderly start turns → transcript turns ≡ saids_text (transcript_says turns) }
-    ensures readable { (input : List ℕ) (events : List Numbered) (turns others : List Turn) → AreOfSchedule input events turns others →
+    ensures readable { (input : List ℕ) (events : List Numbered) (turns others : List Turn) →
+        AreOfSchedule input events turns others →
         TellOrderly start turns → AreReadable events (lines_of (transcript turns)) (transcript_says turns) (history_told turns) }
-    ensures fresh { (input : List ℕ) (events : List Numbered) (turns others : List Turn) → AreOfSchedule input events turns others →
+    ensures fresh { (input : List ℕ) (events : List Numbered) (turns others : List Turn) →
+        AreOfSchedule input events turns others →
         TellOrderly start turns → WalksAreClear (acts_of others) → CollectsInTime (acts_of others) → NoClash (run start turns).buckets →
         (saids : List Said) (history : List Record) → AreReadable events (lines_of (transcript turns)) saids history → Fresh history }
 {
@@ -139,14 +145,17 @@ pub fn replays_give_their_history()
 /// a printed cut is shown in order. So their own text can be read, and its account is their history; it is fresh where no digests
 /// clash in the replay beside them, and what it collects is collected in time.
 pub fn printed_turns_give_their_history()
-    ensures orderly { (events : List Numbered) (saids : List Said) (turns : List Turn) → AreScheduled events →
+    ensures orderly { (events : List Numbered) (saids : List Said) (turns : List Turn) →
+        AreScheduled events →
         AllByRecursion IsLawfulPrint (all_prints events saids) → AreFirstPrinted events (all_prints events saids) turns →
         TellOrderly start turns }
-    ensures readable { (input : List ℕ) (events : List Numbered) (saids : List Said) (turns : List Turn) →
+    ensures readable { (input : List ℕ) (events : List Numbered) (saids : List Said)
+        (turns : List Turn) →
         IsSchedule input events → length input < 2 ^ 64 → AllByRecursion IsLawfulPrint (all_prints events saids) →
         ArePrinted events (all_prints events saids) turns →
         AreReadable events (lines_of (transcript turns)) (transcript_says turns) (history_told turns) }
-    ensures fresh { (input : List ℕ) (events : List Numbered) (saids : List Said) (turns others : List Turn) →
+    ensures fresh { (input : List ℕ) (events : List Numbered) (saids : List Said)
+        (turns others : List Turn) →
         IsSchedule input events → length input < 2 ^ 64 → AllByRecursion IsLawfulPrint (all_prints events saids) →
         ArePrinted events (all_prints events saids) turns → DifferInCuts turns others → ArePlayed others →
         WalksAreClear (acts_of others) → CollectsInTime (acts_of others) → NoClash (run start turns).buckets → (said : List Said) (history : List Record) →

@@ -48,7 +48,8 @@ pub fn turns_are_whole_lines()
 
 /// Of a schedule and a text one thing is found.
 pub fn one_finding()
-    ensures { (input text : List ℕ) (events : List Numbered) (f g : Finding) → IsSchedule input events → length input < 2 ^ 64 →
+    ensures { (input text : List ℕ) (events : List Numbered) (f g : Finding) →
+        IsSchedule input events → length input < 2 ^ 64 →
         Finds events text f → Finds events text g → f ≡ g }
 {
     texts_give_one_account();
@@ -62,13 +63,15 @@ pub fn one_finding()
 /// first that isn't.
 pub fn texts_are_judged()
     ensures fresh { (history : List Record) → Fresh history ⊎ ((q : ℕ) × IsFirstStale history q) }
-    ensures lawful { (prints : List Print) → AllByRecursion IsLawfulPrint prints ⊎ ((k : ℕ) × IsUnlawful prints k) }
+    ensures lawful { (prints : List Print) → AllByRecursion IsLawfulPrint prints ⊎
+        ((k : ℕ) × IsUnlawful prints k) }
 {}
 
 /// After turns that are played each further event can be given what the prints say, where these are lawful: a layout as it is
 /// printed, where it is of what is staged, or what is computed.
 pub fn next_turns_can_be_given()
-    ensures { (events : List Numbered) (saids : List Said) (others : List Turn) (e : Numbered) → AreScheduled events →
+    ensures { (events : List Numbered) (saids : List Said) (others : List Turn) (e : Numbered) →
+        AreScheduled events →
         AllByRecursion IsLawfulPrint (all_prints events saids) → ArePlayed others → AreAllowed others → IsAllowed e.event →
         Chosen (all_prints events saids) (run start others) e }
 {
@@ -77,7 +80,8 @@ pub fn next_turns_can_be_given()
 
 /// A replay goes on after each step of a further lawful turn, or after the first after which it doesn't too much was sent.
 pub fn next_turns_go_on_or_pass()
-    ensures { (others : List Turn) (next : Turn) → ArePlayed others → AreAllowed others → length others < 100000 →
+    ensures { (others : List Turn) (next : Turn) → ArePlayed others → AreAllowed others →
+        length others < 100000 →
         IsAllowed next.numbered.event → IsLawfulAct (run start others) (act_of next.numbered.event next.choice) →
         AllByRecursion GoesOn (steps_of (run start others) next.numbered.event next.choice)
         ⊎ Passes (steps_of (run start others) next.numbered.event next.choice) }
@@ -88,7 +92,8 @@ pub fn next_turns_go_on_or_pass()
 /// Where a text can be read, its account is fresh and each layout that it prints is lawful, something is found of the run that
 /// its prints give.
 pub fn each_run_is_found()
-    ensures { (events : List Numbered) (text : List ℕ) (saids : List Said) (history : List Record) → AreScheduled events →
+    ensures { (events : List Numbered) (text : List ℕ) (saids : List Said) (history : List Record) →
+        AreScheduled events →
         AreReadable events (lines_of text) saids history → Fresh history → AllByRecursion IsLawfulPrint (all_prints events saids) →
         (f : Finding) × Finds events text f }
 {
@@ -100,7 +105,8 @@ pub fn each_run_is_found()
 
 /// Of each schedule and each text something is found.
 pub fn some_finding()
-    ensures { (input text : List ℕ) (events : List Numbered) → IsSchedule input events → (f : Finding) × Finds events text f }
+    ensures { (input text : List ℕ) (events : List Numbered) → IsSchedule input events →
+        (f : Finding) × Finds events text f }
 {
     schedules_are_within_limits();
     texts_give_one_account();
@@ -110,7 +116,8 @@ pub fn some_finding()
 
 /// And exactly one thing, where the schedule has fewer than 2^64 bytes.
 pub fn each_audit_has_one_finding()
-    ensures { (input text : List ℕ) (events : List Numbered) → IsSchedule input events → length input < 2 ^ 64 →
+    ensures { (input text : List ℕ) (events : List Numbered) → IsSchedule input events →
+        length input < 2 ^ 64 →
         (f : Finding) × (Finds events text f × ((g : Finding) → Finds events text g → f ≡ g)) }
 {
     some_finding();

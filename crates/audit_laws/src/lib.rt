@@ -33,26 +33,33 @@ ghost use Rattle.audit_laws.specs.Told.{IsSpoken, IsAnswered, TurnsCanBeHeard, s
 /// What is read of a line is what the line says, and it says one thing at most.
 pub fn lines_say_one_thing()
     ensures read { (line : List ℕ) (said : Said) → (said_of line ≡ Some said) ↔ Says line said }
-    ensures one { (line : List ℕ) (said other : Said) → Says line said → Says line other → said ≡ other }
+    ensures one { (line : List ℕ) (said other : Said) → Says line said → Says line other →
+        said ≡ other }
 {}
 
 /// The lines of a text can be read, and give one account, or one of them is the first that can't be read.
 pub fn texts_give_one_account()
     ensures some { (events : List Numbered) (lines : List (List ℕ)) →
         ((saids : List Said) × (history : List Record) × AreReadable events lines saids history) ⊎ ((k : ℕ) × IsUnreadable events lines k) }
-    ensures account { (events : List Numbered) (lines : List (List ℕ)) (saids others : List Said) (h k : List Record) →
+    ensures account { (events : List Numbered) (lines : List (List ℕ)) (saids others : List Said)
+        (h k : List Record) →
         AreReadable events lines saids h → AreReadable events lines others k → (saids ≡ others) × (h ≡ k) }
-    ensures not_both { (events : List Numbered) (lines : List (List ℕ)) (saids : List Said) (h : List Record) (k : ℕ) →
+    ensures not_both { (events : List Numbered) (lines : List (List ℕ)) (saids : List Said)
+        (h : List Record) (k : ℕ) →
         AreReadable events lines saids h → ¬ IsUnreadable events lines k }
-    ensures line { (events : List Numbered) (lines : List (List ℕ)) (k j : ℕ) → IsUnreadable events lines k → IsUnreadable events lines j → k ≡ j }
+    ensures line { (events : List Numbered) (lines : List (List ℕ)) (k j : ℕ) →
+        IsUnreadable events lines k → IsUnreadable events lines j → k ≡ j }
 {}
 
 /// One request's read is the first that is stale, one printed layout the first that isn't lawful, and in one line two texts
 /// differ first.
 pub fn findings_name_one_line()
-    ensures stale { (history : List Record) (q other : ℕ) → IsFirstStale history q → IsFirstStale history other → q ≡ other }
-    ensures unlawful { (prints : List Print) (k j : ℕ) → IsUnlawful prints k → IsUnlawful prints j → k ≡ j }
-    ensures differs { (a b : List (List ℕ)) (k j : ℕ) → DifferFirst a b k → DifferFirst a b j → k ≡ j }
+    ensures stale { (history : List Record) (q other : ℕ) → IsFirstStale history q →
+        IsFirstStale history other → q ≡ other }
+    ensures unlawful { (prints : List Print) (k j : ℕ) → IsUnlawful prints k → IsUnlawful prints j →
+        k ≡ j }
+    ensures differs { (a b : List (List ℕ)) (k j : ℕ) → DifferFirst a b k → DifferFirst a b j →
+        k ≡ j }
 {}
 
 /// What is printed of a layout changes the text alone: an apply that is given a layout leads to one state, whatever cut is
@@ -73,16 +80,20 @@ pub fn lines_give_the_records()
 
 /// The text of an event that prints no layout, of a node's line and of the last line is the words of what they say.
 pub fn texts_spell_what_is_said()
-    ensures events { (e : Numbered) (o : Outcome) → AllByRecursion IsSpoken o.lines → event_text e o ≡ saids_text (event_saids e o) }
+    ensures events { (e : Numbered) (o : Outcome) → AllByRecursion IsSpoken o.lines →
+        event_text e o ≡ saids_text (event_saids e o) }
     ensures nodes { (n : NodeLine) → node_text n ≡ said_text (node_said n) }
-    ensures end { (events requests messages : ℕ) → end_line events requests messages ≡ said_text (End events requests messages) }
+    ensures end { (events requests messages : ℕ) →
+        end_line events requests messages ≡ said_text (End events requests messages) }
 {}
 
 /// Each event answers with words that it may. What the lines of turns say is heard as their history, but for the identifiers
 /// of superseded ends, where each event and each request that they name is known by then, and no upload was given up before.
 pub fn turns_are_heard()
-    ensures answers { (s : State) (e : Event) (choice : Decision) → IsAnswered e (asking_of e) (outcome s e choice).refused (outcome s e choice).words }
-    ensures heard { (events : List Numbered) (asked : List (ℕ × Kind)) (s : State) (turns : List Turn) →
+    ensures answers { (s : State) (e : Event) (choice : Decision) →
+        IsAnswered e (asking_of e) (outcome s e choice).refused (outcome s e choice).words }
+    ensures heard { (events : List Numbered) (asked : List (ℕ ×
+        Kind)) (s : State) (turns : List Turn) →
         NoneGivenUp s.asked → TurnsCanBeHeard events asked s turns →
         hears_all events (quiet asked (map blunt s.history)) (turns_say s turns) ≡ Some (quiet (requests_after asked s turns) (map blunt (run s turns).history)) }
 {}

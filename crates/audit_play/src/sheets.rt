@@ -76,7 +76,8 @@ fn node_of(event: &Event) -> Option<u8>
 
 /// A copy of the layout that is printed for a line of the schedule, where it is of what is staged.
 fn shown_for(store: &S3World, sheets: &[Sheet], line: u64) -> Result<Option<Applied>, Memory>
-    ensures shown { IfOk result (λ shown. (s : State) → IsStore store.now s → shown ≡ shown_for (staged_in s) (sheet_at sheets.now line)) }
+    ensures shown { IfOk result (λ shown. (s : State) → IsStore store.now s →
+        shown ≡ shown_for (staged_in s) (sheet_at sheets.now line)) }
     ensures want { OnlyWant result }
 {
     match sheet_at(sheets, line) {
@@ -91,7 +92,8 @@ pub(crate) fn given_for(
     sheets: &[Sheet],
     next: &Numbered,
 ) -> Result<Option<(u8, Applied)>, Memory>
-    ensures given { IfOk result (λ given. (s : State) → IsStore store.now s → given ≡ given_for sheets.now (staged_in s) next.now) }
+    ensures given { IfOk result (λ given. (s : State) → IsStore store.now s →
+        given ≡ given_for sheets.now (staged_in s) next.now) }
     ensures want { OnlyWant result }
 {
     let Some(node) = node_of(&next.event) else {

@@ -30,7 +30,8 @@ fn applied(
 ) -> Result<Option<Bytes>, Memory>
     requires stands { HasStore store.old }
     requires greatest { IsGreatest shown.roles.list shown.certified.r shown.certified.size shown.certified.sets.sets }
-    ensures turns { IfOk result (TurnsGiven node shown store.old store.new (record { line = line; event = event.Apply node })) }
+    ensures turns { IfOk result (TurnsGiven node shown store.old store.new
+        (record { line = line; event = event.Apply node })) }
     ensures want { OnlyWant result }
 {
     let told = store.apply_with(node, shown)?;

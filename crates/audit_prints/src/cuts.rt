@@ -38,9 +38,15 @@ pub fn light_cut(
 ) -> Result<Option<Cut>, Memory>
     requires high { r ≤ 3 }
     requires some { 0 < size }
-    ensures light { IfOk result (λ found. IfSome found (λ _. IsLight roles.now.list r size (side_read roles.now.list saids.now))) }
-    ensures cut { IfOk result (λ found. IfSome found (λ cut. IsCutOf roles.now.list r size (side_read roles.now.list saids.now) cut)) }
-    ensures none { IfOk result (λ found. IfNone found (IsLight roles.now.list r size (side_read roles.now.list saids.now) → ⊥)) }
+    ensures light { IfOk result
+        (λ found. IfSome found (λ _. IsLight roles.now.list r size
+        (side_read roles.now.list saids.now))) }
+    ensures cut { IfOk result
+        (λ found. IfSome found (λ cut. IsCutOf roles.now.list r size
+        (side_read roles.now.list saids.now) cut)) }
+    ensures none { IfOk result
+        (λ found. IfNone found (IsLight roles.now.list r size (side_read roles.now.list saids.now) →
+        ⊥)) }
     ensures want { OnlyWant result }
 {
     let names = zone_names(alloc, roles.list.as_slice())?;

@@ -27,7 +27,9 @@ fn staged_after(
     told: &Told,
 ) -> Result<Stage, Memory>
     requires { IfSome event (λ e. IsAllowed e.now) }
-    ensures staged { IfOk result (λ next. staged_of next ≡ stages_if (staged_of stage) (option_map (λ e. e.now) event.entry) told.now) }
+    ensures staged { IfOk result
+        (λ next. staged_of next ≡ stages_if (staged_of stage) (option_map
+        (λ e. e.now) event.entry) told.now) }
     ensures want { OnlyWant result }
 {
     match told {

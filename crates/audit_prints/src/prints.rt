@@ -35,10 +35,12 @@ fn certified(
     saids: &[Said],
 ) -> Result<Option<Certified>, Memory>
     requires { 0 < size }
-    ensures lawful { IfOk result (λ found. IfSome found (λ _. PrintLawful stage.now size saids.now)) }
+    ensures lawful { IfOk result
+        (λ found. IfSome found (λ _. PrintLawful stage.now size saids.now)) }
     ensures shown { IfOk result (λ found. IfSome found (λ certified.
         PrintShown stage.now size saids.now (record { certified = certified; roles = stage.now.roles }))) }
-    ensures unlawful { IfOk result (λ found. IfNone found (PrintLawful stage.now size saids.now → ⊥)) }
+    ensures unlawful { IfOk result (λ found. IfNone found (PrintLawful stage.now size saids.now →
+        ⊥)) }
     ensures want { OnlyWant result }
 {
     let saids = more_lines(saids);
@@ -54,9 +56,11 @@ fn certified(
 
 // What is shown of it.
 fn shown(alloc: Global, stage: &Stage, size: u64, saids: &[Said]) -> Result<Option<Applied>, Memory>
-    ensures lawful { IfOk result (λ found. IfSome found (λ _. PrintLawful stage.now size saids.now)) }
+    ensures lawful { IfOk result
+        (λ found. IfSome found (λ _. PrintLawful stage.now size saids.now)) }
     ensures shown { IfOk result (λ found. IfSome found (PrintShown stage.now size saids.now)) }
-    ensures unlawful { IfOk result (λ found. IfNone found (PrintLawful stage.now size saids.now → ⊥)) }
+    ensures unlawful { IfOk result (λ found. IfNone found (PrintLawful stage.now size saids.now →
+        ⊥)) }
     ensures want { OnlyWant result }
 {
     if size == 0 {

@@ -56,7 +56,8 @@ fn add_sets(
     last: u64,
     set: (u64, u64, u64),
 ) -> Result<Went, Memory>
-    ensures went { IfOk result (λ went. (rest : List SaidLine) → WentSo went sets.old sets.new (Sets first last set) rest) }
+    ensures went { IfOk result (λ went. (rest : List SaidLine) →
+        WentSo went sets.old sets.new (Sets first last set) rest) }
     ensures want { OnlyWant result }
 {
     if first != sets.len() as u64 || last < first || 255 < last {
@@ -73,7 +74,8 @@ fn add_sets(
 
 // Adds the sets of a line.
 fn add_line(sets: &mut List<[u8; 3]>, said: &Said) -> Result<Went, Memory>
-    ensures went { IfOk result (λ went. (rest : List SaidLine) → WentSo went sets.old sets.new said.now rest) }
+    ensures went { IfOk result (λ went. (rest : List SaidLine) →
+        WentSo went sets.old sets.new said.now rest) }
     ensures want { OnlyWant result }
 {
     match said {
@@ -86,7 +88,8 @@ fn add_line(sets: &mut List<[u8; 3]>, said: &Said) -> Result<Went, Memory>
 // The sets that the lines give, from partition 0 on; none where one has a node whose number has more than a byte.
 fn sets_in(alloc: Global, saids: &[Said]) -> Result<Option<List<[u8; 3]>>, Memory>
     ensures some { IfOk result (λ found. IfSome found (λ sets. sets ≡ sets_from 0 saids.now)) }
-    ensures none { IfOk result (λ found. IfNone found (IsTrue (list_any has_high (sets_from 0 saids.now)))) }
+    ensures none { IfOk result
+        (λ found. IfNone found (IsTrue (list_any has_high (sets_from 0 saids.now)))) }
     ensures want { OnlyWant result }
 {
     let mut sets = List::new(alloc);
@@ -109,9 +112,12 @@ pub fn assignment(
     saids: &[Said],
 ) -> Result<Option<Assignment>, Memory>
     requires { 0 < size }
-    ensures sets { IfOk result (λ found. IfSome found (λ assignment. assignment.sets ≡ sets_from 0 saids.now)) }
-    ensures fit { IfOk result (λ found. IfSome found (λ _. Fits roles.now.list r size (sets_from 0 saids.now))) }
-    ensures none { IfOk result (λ found. IfNone found (Fits roles.now.list r size (sets_from 0 saids.now) → ⊥)) }
+    ensures sets { IfOk result
+        (λ found. IfSome found (λ assignment. assignment.sets ≡ sets_from 0 saids.now)) }
+    ensures fit { IfOk result
+        (λ found. IfSome found (λ _. Fits roles.now.list r size (sets_from 0 saids.now))) }
+    ensures none { IfOk result
+        (λ found. IfNone found (Fits roles.now.list r size (sets_from 0 saids.now) → ⊥)) }
     ensures want { OnlyWant result }
 {
     match sets_in(alloc, saids)? {

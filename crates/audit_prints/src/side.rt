@@ -76,7 +76,8 @@ fn add_partitions(
     zones: &[u8],
 ) -> Result<(), Memory>
     requires { first + count ≤ 256 }
-    ensures ok { OnOk result (side.new ≡ side.old ++ flat_map (partition_part up down zones.now) (range_with_len first count)) }
+    ensures ok { OnOk result (side.new ≡ side.old ++ flat_map (partition_part up down zones.now)
+        (range_with_len first count)) }
     ensures want { OnlyWant result }
 {
     for k in 0..count {
@@ -96,7 +97,8 @@ fn add_side(
     zones: &List<Bytes>,
 ) -> Result<(), Memory>
     requires { length names.now ≤ 256 }
-    ensures ok { OnOk result (side.new ≡ side.old ++ flat_map (named_vertices names.now up down zones.now) (partitions_to first last)) }
+    ensures ok { OnOk result (side.new ≡ side.old ++ flat_map
+        (named_vertices names.now up down zones.now) (partitions_to first last)) }
     ensures want { OnlyWant result }
 {
     if 255 < last || last < first {

@@ -57,7 +57,9 @@ pub fn asking_of(event: &Event) -> Option<Asking<'_>>
 impl Asking<'_> {
     /// The record that a request with this number began.
     pub fn began(&self, request: u64) -> Result<Record, Memory>
-        ensures began { IfOk result (λ began. began ≡ Began request self.now.node self.now.kind self.now.bucket.now self.now.key.now) }
+        ensures began { IfOk result
+            (λ began. began ≡
+            Began request self.now.node self.now.kind self.now.bucket.now self.now.key.now) }
         ensures want { OnlyWant result }
     {
         Ok(Record::Began {

@@ -57,8 +57,10 @@ impl Heard {
 
     /// A request began, with this record.
     pub fn begin(&mut self, request: u64, kind: Kind, began: Record) -> Result<(), Memory>
-        ensures kinds { OnOk result (Updates nat_cmp self.old.kinds self.new.kinds request (Some kind)) }
-        ensures others { OnOk result (self.new ≡ record (with_record self.old began) { kinds = self.new.kinds }) }
+        ensures kinds { OnOk result (Updates nat_cmp self.old.kinds self.new.kinds request
+            (Some kind)) }
+        ensures others { OnOk result
+            (self.new ≡ record (with_record self.old began) { kinds = self.new.kinds }) }
         ensures want { OnlyWant result }
     {
         let _ = self.kinds.insert(request, kind)?;

@@ -40,7 +40,8 @@ fn read_line(
     saids: &mut List<Said>,
 ) -> Result<bool, Memory>
     requires { AscendFrom 0 events.now }
-    ensures adds { IfOk result (AddsLine events.now line.now kept.old kept.new saids.old saids.new) }
+    ensures adds { IfOk result
+        (AddsLine events.now line.now kept.old kept.new saids.old saids.new) }
     ensures want { OnlyWant result }
 {
     lines_say_one_thing();

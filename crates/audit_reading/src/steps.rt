@@ -18,7 +18,8 @@ use store_model::{Event, Numbered};
 
 // An event was accepted.
 fn accept(kept: &mut Heard, event: &Event, words: Words) -> Result<bool, Memory>
-    ensures follows { IfOk result (Follows kept.old kept.new (λ h. accepts h event.now (asking_of event.now) words)) }
+    ensures follows { IfOk result (Follows kept.old kept.new
+        (λ h. accepts h event.now (asking_of event.now) words)) }
     ensures want { OnlyWant result }
 {
     let Some(asking) = asking_of(event) else {
@@ -34,7 +35,8 @@ fn accept(kept: &mut Heard, event: &Event, words: Words) -> Result<bool, Memory>
 
 // An event of the schedule, or of no schedule, was told this.
 fn tell(kept: &mut Heard, event: Option<&Event>, told: &Told) -> Result<bool, Memory>
-    ensures follows { IfOk result (Follows kept.old kept.new (λ h. tells h (option_map (λ e. e.now) event.entry) told.now)) }
+    ensures follows { IfOk result (Follows kept.old kept.new
+        (λ h. tells h (option_map (λ e. e.now) event.entry) told.now)) }
     ensures want { OnlyWant result }
 {
     let Some(event) = event else {
@@ -83,7 +85,8 @@ fn end(kept: &mut Heard, request: u64, word: EndWord) -> Result<bool, Memory>
 
 // A list finished, with so many keys.
 fn list(alloc: Global, kept: &mut Heard, request: u64, count: u64) -> Result<bool, Memory>
-    ensures follows { IfOk result (Follows kept.old kept.new (λ h. lists h request count (kind_at h.asked request))) }
+    ensures follows { IfOk result (Follows kept.old kept.new
+        (λ h. lists h request count (kind_at h.asked request))) }
     ensures want { OnlyWant result }
 {
     let Some(kind) = kept.kind(request) else {
@@ -129,7 +132,8 @@ fn take_line(
 
 // A line comes while keys of a list are awaited: one of these, or it can't be heard.
 fn take_key(kept: &mut Heard, mut listing: Listing, said: &Said) -> Result<bool, Memory>
-    ensures follows { IfOk result (λ could. (h : Model) → StandsFor kept.old (record h { listing = None }) →
+    ensures follows { IfOk result (λ could. (h : Model) →
+        StandsFor kept.old (record h { listing = None }) →
         IsNext kept.new (listed h (listing_of listing) said.now) could) }
     ensures want { OnlyWant result }
 {

@@ -10,7 +10,8 @@ use schedule_text::every_text_reads;
 /// For each input an answer is stated: it is too long, or what stands before its first mark is a schedule, has a first bad line
 /// or too many events, and of each schedule and each text behind it something is found.
 pub fn some_audit_is_stated()
-    ensures { (input : List ℕ) → (status : Status) × ((text : List ℕ) × OrTooLong IsAnswer input status text) }
+    ensures { (input : List ℕ) → (status : Status) ×
+        ((text : List ℕ) × OrTooLong IsAnswer input status text) }
 {
     every_text_reads();
     some_finding();

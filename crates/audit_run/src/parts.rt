@@ -45,7 +45,8 @@ fn mark(text: &[u8]) -> Option<(usize, usize)>
 
 /// Cuts an input at its first line `---`.
 pub fn cut(input: &[u8]) -> Parts<'_>
-    ensures parts { AreParts input.now result.schedule.now (option_map (λ t. t.now) result.transcript) }
+    ensures parts { AreParts input.now result.schedule.now (option_map
+        (λ t. t.now) result.transcript) }
     ensures whole { IsWhole input.now → IfSome result.transcript (λ t. IsWhole t.now) }
 {
     match mark(input) {

@@ -48,10 +48,12 @@ use world_reads::{
 /// A printed layout that is lawful for what is staged, its cut whatever light one, has the greatest partition size; and a layout
 /// that is given as it was printed is one that is computed, with another cut perhaps.
 pub fn lawful_prints_are_greatest()
-    ensures greatest { (s : Staged) (p : Printed) → IsTrue (nodes_ascend s.roles) → IsRedundancy s.wanted → IsLawful s p →
+    ensures greatest { (s : Staged) (p : Printed) → IsTrue (nodes_ascend s.roles) →
+        IsRedundancy s.wanted → IsLawful s p →
         (let r = zones_wanted s.wanted s.roles in
         IsGreatest s.roles r p.size p.sets × ((size : ℕ) → p.size < size → NoneFits s.roles r size)) }
-    ensures computed { (s : Staged) (p : Printed) (version : ℕ) (l : Layout) (shown : Applied) → IsRedundancy s.wanted → IsLawful s p →
+    ensures computed { (s : Staged) (p : Printed) (version : ℕ) (l : Layout) (shown : Applied) →
+        IsRedundancy s.wanted → IsLawful s p →
         IsOfPrint s.roles s.wanted version p l shown →
         (best : Applied) × (AreSameButCut shown best × IsBest s.roles s.wanted version l best) }
 {
@@ -62,17 +64,21 @@ pub fn lawful_prints_are_greatest()
 /// Runs that are given the same layouts with other cuts have the same states, event by event; and where everything fits after
 /// each step of one of them, and no more was sent than may be, it is so of the other.
 pub fn cuts_change_no_run()
-    ensures events { (turns others : List Turn) → DifferInCuts turns others → events_of turns ≡ events_of others }
+    ensures events { (turns others : List Turn) → DifferInCuts turns others →
+        events_of turns ≡ events_of others }
     ensures states { (s : State) (turns others : List Turn) → DifferInCuts turns others →
         (n : ℕ) → run s (take n turns) ≡ run s (take n others) }
-    ensures end { (s : State) (turns others : List Turn) → DifferInCuts turns others → run s turns ≡ run s others }
-    ensures go_on { (s : State) (turns others : List Turn) → DifferInCuts turns others → AllGoOn s turns → AllGoOn s others }
+    ensures end { (s : State) (turns others : List Turn) → DifferInCuts turns others →
+        run s turns ≡ run s others }
+    ensures go_on { (s : State) (turns others : List Turn) → DifferInCuts turns others →
+        AllGoOn s turns → AllGoOn s others }
 {}
 
 /// Where each layout that a transcript prints is lawful, the run that is given these layouts, each where it is of what is staged,
 /// differs from a replay in nothing but cuts.
 pub fn printed_turns_are_played()
-    ensures { (events : List Numbered) (saids : List Said) (turns : List Turn) → AreRightlyGiven events saids turns →
+    ensures { (events : List Numbered) (saids : List Said) (turns : List Turn) →
+        AreRightlyGiven events saids turns →
         (others : List Turn) × (DifferInCuts turns others × ArePlayed others) }
 {
     lawful_prints_are_greatest();
@@ -81,7 +87,8 @@ pub fn printed_turns_are_played()
 /// And what is promised of replays holds of it: at each moment of the replay beside it, whose states are its own, and of its
 /// records.
 pub fn printed_turns_keep_promises()
-    ensures { (events : List Numbered) (saids : List Said) (turns : List Turn) → AreRightlyGiven events saids turns → IsKeptBeside turns }
+    ensures { (events : List Numbered) (saids : List Said) (turns : List Turn) →
+        AreRightlyGiven events saids turns → IsKeptBeside turns }
 {
     printed_turns_are_played();
     promises_are_kept();
@@ -90,10 +97,12 @@ pub fn printed_turns_keep_promises()
 
 /// So it is of the first turns of a schedule's events, after each step of which a replay goes on.
 pub fn first_turns_keep_promises()
-    ensures beside { (events : List Numbered) (saids : List Said) (turns : List Turn) → AreScheduled events →
+    ensures beside { (events : List Numbered) (saids : List Said) (turns : List Turn) →
+        AreScheduled events →
         AllByRecursion IsLawfulPrint (all_prints events saids) → AreFirstPrinted events (all_prints events saids) turns →
         (others : List Turn) × (DifferInCuts turns others × ArePlayed others) }
-    ensures kept { (events : List Numbered) (saids : List Said) (turns : List Turn) → AreScheduled events →
+    ensures kept { (events : List Numbered) (saids : List Said) (turns : List Turn) →
+        AreScheduled events →
         AllByRecursion IsLawfulPrint (all_prints events saids) → AreFirstPrinted events (all_prints events saids) turns →
         IsKeptBeside turns }
 {
@@ -105,7 +114,8 @@ pub fn first_turns_keep_promises()
 /// A printed layout is one that can be given: so runs of the same events that are given the same prints lead to one state and
 /// have one text, as long as each apply that comes to a layout has one printed, of what is staged.
 pub fn prints_fix_runs()
-    ensures { (ps : List Print) (s : State) (turns others : List Turn) → events_of turns ≡ events_of others →
+    ensures { (ps : List Print) (s : State) (turns others : List Turn) →
+        events_of turns ≡ events_of others →
         AreGiven ps s turns → AreGiven ps s others → HavePrints ps s turns →
         (run s turns ≡ run s others) × (turns_text s turns ≡ turns_text s others) }
 {}
@@ -113,13 +123,15 @@ pub fn prints_fix_runs()
 /// What is staged after an event of any run is told by what was staged before, the event, and whether it was refused: roles,
 /// redundancies and `trio` alone change it.
 pub fn events_stage_what_they_say()
-    ensures { (s : State) (t : Turn) → staged_in (after s t) ≡ stages_by (staged_in s) t.numbered.event (outcome_of s t).refused }
+    ensures { (s : State) (t : Turn) →
+        staged_in (after s t) ≡ stages_by (staged_in s) t.numbered.event (outcome_of s t).refused }
 {}
 
 /// Where lines say of each event in its turn whether it was accepted, what they say was staged when a layout is printed is what
 /// is staged in the run.
 pub fn lines_say_what_is_staged()
-    ensures { (turns : List Turn) (saids : List Said) (line : ℕ) → AscendFrom line (events_of turns) → TellTurns start turns saids →
+    ensures { (turns : List Turn) (saids : List Said) (line : ℕ) →
+        AscendFrom line (events_of turns) → TellTurns start turns saids →
         AreStagedSo (all_prints (events_of turns) saids) start turns }
 {
     events_stage_what_they_say();
@@ -134,7 +146,8 @@ pub fn other_lines_are_whole()
 /// Where the lines of a run's own text can be read, and no key and no zone's name that it tells holds a line feed, what they say
 /// tells of each event in its turn whether it was accepted.
 pub fn texts_tell_turns()
-    ensures { (events : List Numbered) (turns : List Turn) (saids : List Said) (history : List Record) →
+    ensures { (events : List Numbered) (turns : List Turn) (saids : List Said)
+        (history : List Record) →
         AreNumbered (events_of turns) → TellUnbroken start turns → AreReadable events (lines_of (transcript turns)) saids history → TellTurns start turns saids }
 {
     other_lines_are_whole();
@@ -142,18 +155,21 @@ pub fn texts_tell_turns()
 
 /// The events of a schedule stand in lines that ascend.
 pub fn schedules_ascend()
-    ensures { (input : List ℕ) (events : List Numbered) → IsSchedule input events → AscendFrom 0 events }
+    ensures { (input : List ℕ) (events : List Numbered) → IsSchedule input events →
+        AscendFrom 0 events }
 {}
 
 /// And where the schedule is shorter than 2^64 bytes, in lines whose numbers are below 2^64.
 pub fn schedules_are_numbered()
-    ensures { (input : List ℕ) (events : List Numbered) → IsSchedule input events → length input < 2 ^ 64 → AreNumbered events }
+    ensures { (input : List ℕ) (events : List Numbered) → IsSchedule input events →
+        length input < 2 ^ 64 → AreNumbered events }
 {}
 
 /// Turns that differ in nothing but cuts from a replay of events which the grammar allows tell no key and no zone's name with a
 /// line feed: each key of a list comes from a put or copy, and each zone from a role or from `trio`.
 pub fn turns_tell_unbroken()
-    ensures { (turns others : List Turn) → AreAllowed turns → DifferInCuts turns others → ArePlayed others → TellUnbroken start turns }
+    ensures { (turns others : List Turn) → AreAllowed turns → DifferInCuts turns others →
+        ArePlayed others → TellUnbroken start turns }
 {
     events_stage_what_they_say();
     every_world_is_sound::<S3Schema>();
@@ -167,7 +183,8 @@ pub fn turns_tell_unbroken()
 
 /// So it is of the first turns of a schedule's events that are given lawful layouts which a transcript prints.
 pub fn first_turns_tell_unbroken()
-    ensures { (events : List Numbered) (saids : List Said) (turns : List Turn) → AreScheduled events →
+    ensures { (events : List Numbered) (saids : List Said) (turns : List Turn) →
+        AreScheduled events →
         AllByRecursion IsLawfulPrint (all_prints events saids) → AreFirstPrinted events (all_prints events saids) turns →
         TellUnbroken start turns }
 {
@@ -179,11 +196,13 @@ pub fn first_turns_tell_unbroken()
 /// that comes next is of what is staged in the run; and where the two lines that come next are those with which an apply tells a
 /// layout, one is printed for it, of what is staged.
 pub fn printed_roles_are_staged()
-    ensures placed { (input text : List ℕ) (events : List Numbered) (saids : List Said) (turns : List Turn) →
+    ensures placed { (input text : List ℕ) (events : List Numbered) (saids : List Said)
+        (turns : List Turn) →
         (told : AreToldFirst input text events saids turns) → (next : Numbered) (rest : List Numbered) → told.first.later ≡ next ∷ rest →
         (p : Print) → print_at (all_prints events saids) next.line ≡ Some p → IsPrintedNext turns p →
         p.staged ≡ staged_in (run start turns) }
-    ensures agreed { (input text : List ℕ) (events : List Numbered) (saids : List Said) (turns : List Turn) →
+    ensures agreed { (input text : List ℕ) (events : List Numbered) (saids : List Said)
+        (turns : List Turn) →
         (told : AreToldFirst input text events saids turns) → (next : Numbered) (rest : List Numbered) → told.first.later ≡ next ∷ rest →
         (n version size : ℕ) → next.event ≡ Apply n → BeginsWithLayout told.more next version size →
         (p : Print) × ((print_at (all_prints events saids) next.line ≡ Some p) × (p.staged ≡ staged_in (run start turns))) }

@@ -16,7 +16,8 @@ use std::alloc::Global;
 /// The root of the trie that has the first `pair_count` pairs, settled at once, and then other row hashes for the
 /// first `change_count` key hashes, settled one after the other.
 pub fn changed_root(alloc: Global, pair_count: u64, change_count: u64) -> Result<Hash32, Memory>
-    ensures { IfOk result (λ r. r.0 ≡ root (blake2b 32) (numbered 2 change_count (numbered 1 pair_count []))) }
+    ensures { IfOk result (λ r. r.0 ≡ root (blake2b 32)
+        (numbered 2 change_count (numbered 1 pair_count []))) }
 {
     let mut trie = Trie::new(alloc);
     let mut hasher = Blake::new();

@@ -79,7 +79,8 @@ pub fn take_within(
     moments: &Moments,
     limit: Option<u64>,
 ) -> Result<Vec<(Hash32, u64)>, Memory>
-    ensures idle { IfOk result (λ v. (c : Contents) → AreMoments (Some moments.now) c → IsInOrder c → v.items ≡ idle_within limit c) }
+    ensures idle { IfOk result (λ v. (c : Contents) → AreMoments (Some moments.now) c →
+        IsInOrder c → v.items ≡ idle_within limit c) }
     ensures want { OnlyWant result }
 {
     let found = find_within(alloc, moments, limit)?;

@@ -23,7 +23,8 @@ pub enum Deed {
 
 // A node shows its view to each of the others, and all messages are delivered.
 fn show_from(deeds: &mut List<Deed>, node: u8, part: &[u8]) -> Result<(), Memory>
-    ensures shows { OnOk result (map act_of deeds.new ≡ map act_of deeds.old ++ shows_acts (from_one node part.now)) }
+    ensures shows { OnOk result (map act_of deeds.new ≡ map act_of deeds.old ++ shows_acts
+        (from_one node part.now)) }
     ensures want { OnlyWant result }
 {
     for other in part {
@@ -40,7 +41,8 @@ fn show_from(deeds: &mut List<Deed>, node: u8, part: &[u8]) -> Result<(), Memory
 
 // Each of the others shows its view to a node, and all messages are delivered.
 fn show_to(deeds: &mut List<Deed>, node: u8, part: &[u8]) -> Result<(), Memory>
-    ensures shows { OnOk result (map act_of deeds.new ≡ map act_of deeds.old ++ shows_acts (to_one node part.now)) }
+    ensures shows { OnOk result (map act_of deeds.new ≡ map act_of deeds.old ++ shows_acts
+        (to_one node part.now)) }
     ensures want { OnlyWant result }
 {
     for other in part {
@@ -57,7 +59,8 @@ fn show_to(deeds: &mut List<Deed>, node: u8, part: &[u8]) -> Result<(), Memory>
 
 // What all know becomes known to a node, and then to all.
 fn spread(deeds: &mut List<Deed>, node: u8, part: &[u8]) -> Result<(), Memory>
-    ensures spreads { OnOk result (map act_of deeds.new ≡ map act_of deeds.old ++ spreads_acts node part.now) }
+    ensures spreads { OnOk result (map act_of deeds.new ≡ map act_of deeds.old ++
+        spreads_acts node part.now) }
     ensures want { OnlyWant result }
 {
     show_to(deeds, node, part)?;
@@ -67,7 +70,8 @@ fn spread(deeds: &mut List<Deed>, node: u8, part: &[u8]) -> Result<(), Memory>
 
 // Each node acts so.
 fn turns(deeds: &mut List<Deed>, action: Action, part: &[u8]) -> Result<(), Memory>
-    ensures turns { OnOk result (map act_of deeds.new ≡ map act_of deeds.old ++ each_acts (step_of action) part.now) }
+    ensures turns { OnOk result (map act_of deeds.new ≡ map act_of deeds.old ++ each_acts
+        (step_of action) part.now) }
     ensures want { OnlyWant result }
 {
     for node in part {
@@ -81,7 +85,8 @@ fn turns(deeds: &mut List<Deed>, action: Action, part: &[u8]) -> Result<(), Memo
 
 // Each node acts so, and then it spreads what they know.
 fn turns_spread(deeds: &mut List<Deed>, action: Action, node: u8, part: &[u8]) -> Result<(), Memory>
-    ensures turns { OnOk result (map act_of deeds.new ≡ map act_of deeds.old ++ (each_acts (step_of action) part.now ++ spreads_acts node part.now)) }
+    ensures turns { OnOk result (map act_of deeds.new ≡ map act_of deeds.old ++
+        (each_acts (step_of action) part.now ++ spreads_acts node part.now)) }
     ensures want { OnlyWant result }
 {
     turns(deeds, action, part)?;
@@ -92,7 +97,8 @@ fn turns_spread(deeds: &mut List<Deed>, action: Action, node: u8, part: &[u8]) -
 /// What is done in a layout change once a node has applied the layout, among those that take part, but that delivered
 /// messages are forgotten at the end.
 pub fn deeds_past_apply(alloc: Global, node: u8, part: &[u8]) -> Result<List<Deed>, Memory>
-    ensures deeds { IfOk result (λ deeds. map act_of deeds ++ forgets ∷ [] ≡ acts_past_apply node part.now) }
+    ensures deeds { IfOk result
+        (λ deeds. map act_of deeds ++ forgets ∷ [] ≡ acts_past_apply node part.now) }
     ensures want { OnlyWant result }
 {
     let mut deeds = List::new(alloc);

@@ -63,8 +63,10 @@ fn add_amount(page: &mut Bytes, amount: u64) -> Result<(), Memory> {
 
 /// Adds a piece to the end of a page.
 pub fn add(page: &mut Bytes, piece: Piece<'_>) -> Result<(), Memory>
-    ensures text { OnOk result ((text : Bor (List ℕ)) → piece.entry ≡ Piece.Text text → page.new ≡ page.old ++ text.now) }
-    ensures word { OnOk result ((word : Bor (List ℕ)) → piece.entry ≡ Piece.Word word → page.new ≡ page.old ++ escaped word.now) }
+    ensures text { OnOk result ((text : Bor (List ℕ)) → piece.entry ≡ Piece.Text text →
+        page.new ≡ page.old ++ text.now) }
+    ensures word { OnOk result ((word : Bor (List ℕ)) → piece.entry ≡ Piece.Word word →
+        page.new ≡ page.old ++ escaped word.now) }
 {
     match piece {
         Piece::Text(text) => page.extend_from_slice(text.as_bytes()),

@@ -21,7 +21,9 @@ ghost use Rattle.collect_reads.specs.Clean.{GaveNotBelow};
 /// range phase gives a row of its key with a version below it, where phases end within an hour of their requests. The
 /// answers of such a phase may have come before the marker was collected.
 pub fn reads_give_nothing_below<R, L, A, C>()
-    ensures { (join : R → R → R) (s : Words R) (v : Versions R) (k : Layouts L) (trio : L) (trio_roles : List Role → List Role) (partitions : ℕ) (before later : List (Move R L A C)) (move : Move R L A C) →
+    ensures { (join : R → R →
+        R) (s : Words R) (v : Versions R) (k : Layouts L) (trio : L) (trio_roles : List Role →
+        List Role) (partitions : ℕ) (before later : List (Move R L A C)) (move : Move R L A C) →
         Laws join s → VersionLaws join s v → 1 ≤ partitions → IsLayout k partitions trio → k.reading.version trio ≡ 1 →
         IsRun join s k trio trio_roles partitions empty (before ++ later) → IsPrompt join s v k trio trio_roles (before ++ later) →
         EndInTime (moments_over join s k trio trio_roles [] empty (before ++ later)) (run join s k trio trio_roles empty (before ++ later)).time (does join s k trio trio_roles (run join s k trio trio_roles empty (before ++ later)) move).ends →

@@ -11,7 +11,8 @@ use std::alloc::Global;
 /// The join of all rows, or none where there are none.
 pub fn join<R: Crdt>(rows: &[R]) -> Result<Option<R>, Memory>
     ensures joined { IfOk result (λ all. all ≡ join_of R.join rows.now) }
-    ensures above { IfOk result (λ all. All (λ row. AtMost (option_join R.join) (Some row) all) rows.now) }
+    ensures above { IfOk result
+        (λ all. All (λ row. AtMost (option_join R.join) (Some row) all) rows.now) }
     ensures want { OnlyWant result }
 {
     let mut all: Option<R> = None;

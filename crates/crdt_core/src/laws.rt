@@ -23,16 +23,26 @@ pub fn rows_are_ordered<R: Crdt>()
 /// joins, and it is the least row that each member is at most.
 pub fn lists_join<R: Crdt>()
     ensures members { (xs ys : List R) → SameMembers xs ys → join_of R.join xs ≡ join_of R.join ys }
-    ensures appended { (xs ys : List R) → join_of R.join (xs ++ ys) ≡ option_join R.join (join_of R.join xs) (join_of R.join ys) }
-    ensures above { (xs : List R) → All (λ x. AtMost (option_join R.join) (Some x) (join_of R.join xs)) xs }
-    ensures least { (xs : List R) (b : Option R) → All (λ x. AtMost (option_join R.join) (Some x) b) xs → AtMost (option_join R.join) (join_of R.join xs) b }
+    ensures appended { (xs ys : List R) →
+        join_of R.join (xs ++ ys) ≡ option_join R.join (join_of R.join xs) (join_of R.join ys) }
+    ensures above { (xs : List R) →
+        All (λ x. AtMost (option_join R.join) (Some x) (join_of R.join xs)) xs }
+    ensures least { (xs : List R) (b : Option R) →
+        All (λ x. AtMost (option_join R.join) (Some x) b) xs →
+        AtMost (option_join R.join) (join_of R.join xs) b }
 {}
 
 /// A map is what it holds at each key, and merging acts on each key alone.
 pub fn maps_join_by_key<K: Value, V: Crdt>()
-    ensures values_decide { (a b : MapOf K.cmp K.eq K.partial_cmp V) → ((k : K) → map_get a k ≡ map_get b k) → a ≡ b }
-    ensures joined { (a b : MapOf K.cmp K.eq K.partial_cmp V) (k : K) → map_get (map_join V.join a b) k ≡ option_join V.join (map_get a k) (map_get b k) }
-    ensures put { (m : MapOf K.cmp K.eq K.partial_cmp V) (k : K) (v : V) → map_get (map_join V.join m (map_single k v)) k ≡ option_join V.join (map_get m k) (Some v) }
-    ensures cut { (m : MapOf K.cmp K.eq K.partial_cmp V) (k at : K) → map_get (map_from k m) at ≡ (if is_lt (K.cmp at k) then None else map_get m at) }
-    ensures put_elsewhere { (m : MapOf K.cmp K.eq K.partial_cmp V) (k : K) (v : V) (other : K) → K.cmp other k ≢ Equal → map_get (map_join V.join m (map_single k v)) other ≡ map_get m other }
+    ensures values_decide { (a b : MapOf K.cmp K.eq K.partial_cmp V) →
+        ((k : K) → map_get a k ≡ map_get b k) → a ≡ b }
+    ensures joined { (a b : MapOf K.cmp K.eq K.partial_cmp V) (k : K) →
+        map_get (map_join V.join a b) k ≡ option_join V.join (map_get a k) (map_get b k) }
+    ensures put { (m : MapOf K.cmp K.eq K.partial_cmp V) (k : K) (v : V) →
+        map_get (map_join V.join m (map_single k v)) k ≡ option_join V.join (map_get m k) (Some v) }
+    ensures cut { (m : MapOf K.cmp K.eq K.partial_cmp V) (k at : K) →
+        map_get (map_from k m) at ≡ (if is_lt (K.cmp at k) then None else map_get m at) }
+    ensures put_elsewhere { (m : MapOf K.cmp K.eq K.partial_cmp V) (k : K) (v : V) (other : K) →
+        K.cmp other k ≢ Equal → map_get (map_join V.join m (map_single k v)) other ≡
+        map_get m other }
 {}

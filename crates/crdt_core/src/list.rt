@@ -95,7 +95,8 @@ impl<T> List<T> {
     /// The row at a place that the list has, to be written.
     pub fn at_mut(&mut self, index: usize) -> &mut T
         requires { index < length self.old }
-        ensures* writes_back { sem 𝓛 (Lends (the_row T.row) T.row self.entry result (slice_set self.old index)) }
+        ensures* writes_back { sem 𝓛 (Lends (the_row T.row) T.row self.entry result
+            (slice_set self.old index)) }
         ensures value { slice_get self.old index ≡ Some result.now }
     {
         &mut self.rows[index]

@@ -19,7 +19,8 @@ ghost use Rattle.drain_limits.specs.Loads.{Keys, HasKeys, load};
 /// Where the nodes' tries have no key hashes but these, the delivery of a message that waits sends no more than it takes from
 /// the load of those that wait.
 pub fn deliveries_are_paid<R, L, A, C>()
-    ensures { (join : R → R → R) (s : Words R) (k : Layouts L) (trio : L) (trio_roles : List Role → List Role) (choice : Choice L A C) (keys : Keys) (w : World R L) (m : ℕ) →
+    ensures { (join : R → R → R) (s : Words R) (k : Layouts L) (trio : L) (trio_roles : List Role →
+        List Role) (choice : Choice L A C) (keys : Keys) (w : World R L) (m : ℕ) →
         ((n : ℕ) → HasKeys join s keys (w.nodes n)) → length w.messages ≡ length w.marks → numbered w.marks m ≡ Some fresh →
         (let then = next join s k trio trio_roles w (record { step = Deliver m; choice = choice }) in
         length then.messages + load keys (waiting then) ≤ length w.messages + load keys (waiting w)) }
@@ -28,7 +29,8 @@ pub fn deliveries_are_paid<R, L, A, C>()
 /// So up to any number of deliveries, each of the least message that waits, send no more messages than the load of those that
 /// waited at first, where the nodes' tries have no key hashes but these all the time.
 pub fn drains_send_few<R, L, A, C>()
-    ensures { (join : R → R → R) (s : Words R) (k : Layouts L) (trio : L) (trio_roles : List Role → List Role) (choice : Choice L A C) (keys : Keys) (n : ℕ) (w : World R L) →
+    ensures { (join : R → R → R) (s : Words R) (k : Layouts L) (trio : L) (trio_roles : List Role →
+        List Role) (choice : Choice L A C) (keys : Keys) (n : ℕ) (w : World R L) →
         ((i : ℕ) → i ≤ n → (m : ℕ) → HasKeys join s keys ((drains join s k trio trio_roles choice i w).nodes m)) → length w.messages ≡ length w.marks →
         (let then = drains join s k trio trio_roles choice n w in
         length then.messages + load keys (waiting then) ≤ length w.messages + load keys (waiting w)) }

@@ -19,7 +19,8 @@ fn place_of(events: &[Numbered], line: u64) -> Option<usize>
 
 // The event, where it has this name.
 fn named<'a>(numbered: &'a Numbered, name: &[u8]) -> Option<&'a Event>
-    ensures { option_map (λ e. e.now) result ≡ cond (same_bytes (name_of numbered.now.event) name.now) (Some numbered.now.event) None }
+    ensures { option_map (λ e. e.now) result ≡ cond
+        (same_bytes (name_of numbered.now.event) name.now) (Some numbered.now.event) None }
 {
     if event_text::name(&numbered.event) == name {
         Some(&numbered.event)

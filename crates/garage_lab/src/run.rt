@@ -54,11 +54,13 @@ pub fn run<I: Source, O: Sink, L: Link, C: Clock>(
 
     // Of each command all that is said of it: how it reads and what it writes (`Edges`), what its answers say and when they
     // come (`LaysOut`, `Replays`, `Audits`, `ReplaysItems`, `Summarizes`, `Serves`).
-    ensures does { (command : Command) → Asks words.now command → Does I.Source O.Sink L.Link C.Clock command result input.old input.new
+    ensures does { (command : Command) → Asks words.now command →
+        Does I.Source O.Sink L.Link C.Clock command result input.old input.new
         output.old output.new link.old link.new clock.old clock.new }
 
     // Words that ask for nothing bring the usage line, and no other words do.
-    ensures usage { AskNothing words.now → TellsUsage O.Sink result input.old input.new output.old output.new link.old link.new clock.old clock.new }
+    ensures usage { AskNothing words.now →
+        TellsUsage O.Sink result input.old input.new output.old output.new link.old link.new clock.old clock.new }
     ensures usage_alone { result ≡ Status.Usage → AskNothing words.now }
 {
     match asked_by(words) {

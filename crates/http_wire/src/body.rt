@@ -39,7 +39,8 @@ fn fill<L: Link>(link: &mut L, place: &mut [u8], count: &mut usize) -> Result<()
     ensures present { IsSome (L.present link.new) }
     ensures size { length place.new ≡ length place.old }
     ensures within { count.new ≤ length place.old }
-    ensures fills { OnPresent (FillsPlace (length place.old) (take count.old place.old) result (take count.new place.new)) (L.present link.old) (L.present link.new) }
+    ensures fills { OnPresent (FillsPlace (length place.old) (take count.old place.old) result
+        (take count.new place.new)) (L.present link.old) (L.present link.new) }
     ensures stays { Stays L.Link link.old link.new }
 {
     'pieces: while *count < place.len() {
@@ -62,7 +63,8 @@ fn find_body<L: Link>(
 ) -> Result<Bytes, HeadEnd>
     requires { IsSome (L.present link.old) }
     ensures present { IsSome (L.present link.new) }
-    ensures reads { OnPresent (ReadsBody kept.old.bytes.items size result kept.new.bytes.items) (L.present link.old) (L.present link.new) }
+    ensures reads { OnPresent (ReadsBody kept.old.bytes.items size result kept.new.bytes.items)
+        (L.present link.old) (L.present link.new) }
     ensures stays { Stays L.Link link.old link.new }
 {
     let (mut place, mut count) = place_with_kept(alloc, size as usize, kept)?;
@@ -90,10 +92,13 @@ pub fn read_body<L: Link>(
     ensures present { IsSome (L.present link.new) }
 
     // What was read of the connection, and what is kept, for each answer.
-    ensures reads { OnPresent (ReadsBody kept.old.bytes.items length result kept.new.bytes.items) (L.present link.old) (L.present link.new) }
+    ensures reads { OnPresent (ReadsBody kept.old.bytes.items length result kept.new.bytes.items)
+        (L.present link.old) (L.present link.new) }
 
     // Where the connection tells its bytes: what all of them begin with.
-    ensures told { OnPresent (OnAll (λ all rest. IsBodyOf all length result rest) kept.old.bytes.items kept.new.bytes.items) (L.present link.old) (L.present link.new) }
+    ensures told { OnPresent (OnAll
+        (λ all rest. IsBodyOf all length result rest) kept.old.bytes.items kept.new.bytes.items)
+        (L.present link.old) (L.present link.new) }
     ensures stays { Stays L.Link link.old link.new }
 {
     find_body(alloc, link, kept, length)

@@ -48,9 +48,11 @@ pub fn read_piece<L: Link>(
     requires present { IsSome (L.present link.old) }
     requires room { 0 < length piece.old }
     ensures present { IsSome (L.present link.new) }
-    ensures grows { IfOk result (λ n. kept.new.bytes.items ≡ kept.old.bytes.items ++ take n piece.new) }
+    ensures grows { IfOk result
+        (λ n. kept.new.bytes.items ≡ kept.old.bytes.items ++ take n piece.new) }
     ensures piece { length piece.new ≡ length piece.old }
-    ensures reads { OnPresent (ReadsPiece kept.old.bytes.items result kept.new.bytes.items) (L.present link.old) (L.present link.new) }
+    ensures reads { OnPresent (ReadsPiece kept.old.bytes.items result kept.new.bytes.items)
+        (L.present link.old) (L.present link.new) }
     ensures stays { Stays L.Link link.old link.new }
 {
     kept.bytes.reserve(piece.len())?;

@@ -19,7 +19,8 @@ fn read_to_end<L: Link>(link: &mut L, kept: &mut Kept) -> Result<usize, HeadEnd>
     requires { IsSome (L.present link.old) }
     ensures present { IsSome (L.present link.new) }
     ensures within { IfOk result (λ end. end ≤ length kept.new.bytes.items) }
-    ensures reads { OnPresent (SeesEnd kept.old.bytes.items result kept.new.bytes.items) (L.present link.old) (L.present link.new) }
+    ensures reads { OnPresent (SeesEnd kept.old.bytes.items result kept.new.bytes.items)
+        (L.present link.old) (L.present link.new) }
     ensures stays { Stays L.Link link.old link.new }
 {
     let mut piece = [0; PIECE_SIZE];
@@ -43,7 +44,8 @@ fn take_head(alloc: Global, kept: &mut Kept, end: usize) -> Result<Head, HeadEnd
     requires { end ≤ length kept.old.bytes.items }
     ensures head { IfOk result (IsHead (take end kept.old.bytes.items)) }
     ensures bad { result ≡ Err HeadEnd.Bad → IsNoHead (take end kept.old.bytes.items) }
-    ensures rest { (result ≡ Err HeadEnd.Memory → ⊥) → kept.new.bytes.items ≡ drop end kept.old.bytes.items }
+    ensures rest { (result ≡ Err HeadEnd.Memory → ⊥) →
+        kept.new.bytes.items ≡ drop end kept.old.bytes.items }
     ensures kept { result ≡ Err HeadEnd.Memory → kept.new.bytes.items ≡ kept.old.bytes.items }
     ensures causes { IfErr result (λ e. (e ≡ HeadEnd.Bad) ⊎ (e ≡ HeadEnd.Memory)) }
 {
@@ -64,7 +66,8 @@ fn take_head(alloc: Global, kept: &mut Kept, end: usize) -> Result<Head, HeadEnd
 fn find_head<L: Link>(alloc: Global, link: &mut L, kept: &mut Kept) -> Result<Head, HeadEnd>
     requires { IsSome (L.present link.old) }
     ensures present { IsSome (L.present link.new) }
-    ensures reads { OnPresent (ReadsHead kept.old.bytes.items result kept.new.bytes.items) (L.present link.old) (L.present link.new) }
+    ensures reads { OnPresent (ReadsHead kept.old.bytes.items result kept.new.bytes.items)
+        (L.present link.old) (L.present link.new) }
     ensures stays { Stays L.Link link.old link.new }
 {
     let end = read_to_end(link, kept)?;
@@ -80,10 +83,13 @@ pub fn read_head<L: Link>(alloc: Global, link: &mut L, kept: &mut Kept) -> Resul
     ensures present { IsSome (L.present link.new) }
 
     // What was read of the connection, and what is kept, for each answer.
-    ensures reads { OnPresent (ReadsHead kept.old.bytes.items result kept.new.bytes.items) (L.present link.old) (L.present link.new) }
+    ensures reads { OnPresent (ReadsHead kept.old.bytes.items result kept.new.bytes.items)
+        (L.present link.old) (L.present link.new) }
 
     // Where the connection tells its bytes: what all of them begin with.
-    ensures told { OnPresent (OnAll (λ all rest. IsHeadOf all result rest) kept.old.bytes.items kept.new.bytes.items) (L.present link.old) (L.present link.new) }
+    ensures told { OnPresent (OnAll
+        (λ all rest. IsHeadOf all result rest) kept.old.bytes.items kept.new.bytes.items)
+        (L.present link.old) (L.present link.new) }
     ensures stays { Stays L.Link link.old link.new }
 {
     find_head(alloc, link, kept)

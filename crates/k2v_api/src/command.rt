@@ -37,7 +37,8 @@ fn bad_line(alloc: Global, line: u64) -> Result<Bytes, Memory>
 
 /// Says why a replay gave up, where that is said in the output.
 fn stopped<O: Sink>(alloc: Global, output: &mut O, stop: Stop) -> Status
-    ensures says { Says (status_of stop) (said_of stop) result (O.written output.old) (O.written output.new) (O.faults output.old) (O.faults output.new) }
+    ensures says { Says (status_of stop) (said_of stop) result (O.written output.old)
+        (O.written output.new) (O.faults output.old) (O.faults output.new) }
     ensures failed_write { stop ≡ Stop.Write → result ≡ Status.WriteFault }
     ensures counted { O.faults output.old ≤ O.faults output.new }
     ensures told { (result ≡ Status.WriteFault) ⊎ (O.faults output.new ≡ O.faults output.old) }
@@ -70,8 +71,10 @@ fn schedule_of(alloc: Global, text: &[u8]) -> Result<List<NumberedItemEvent>, St
 
 /// Writes the transcript of the schedule that a text spells.
 fn replay<O: Sink>(alloc: Global, text: &[u8], output: &mut O) -> Result<(), Stop>
-    ensures done { OnOk result (Answers (IsAnswer text.now) Status.Done (O.written output.old) (O.written output.new)) }
-    ensures halts { IfErr result (λ stop. HaltsOn text.now stop (O.written output.old) (O.written output.new)) }
+    ensures done { OnOk result (Answers (IsAnswer text.now) Status.Done (O.written output.old)
+        (O.written output.new)) }
+    ensures halts { IfErr result
+        (λ stop. HaltsOn text.now stop (O.written output.old) (O.written output.new)) }
     ensures fault { result ≡ Err Stop.Write → Rose (O.faults output.old) (O.faults output.new) }
     ensures counted { O.faults output.old ≤ O.faults output.new }
     ensures told { (result ≡ Err Stop.Write) ⊎ (O.faults output.new ≡ O.faults output.old) }

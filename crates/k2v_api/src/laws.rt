@@ -11,7 +11,8 @@ use k2v_text::every_item_text_reads;
 /// For each input an answer is stated: it is too long, or its text is a schedule, has a first bad line or too many events, and
 /// a replay of each schedule has a stated end.
 pub fn some_item_replay_is_stated()
-    ensures { (input : List ℕ) → (status : Status) × ((text : List ℕ) × OrTooLong IsAnswer input status text) }
+    ensures { (input : List ℕ) → (status : Status) ×
+        ((text : List ℕ) × OrTooLong IsAnswer input status text) }
 {
     every_item_text_reads();
     item_schedules_are_within_limits();

@@ -20,7 +20,8 @@ const SENT_LIMIT: u64 = 268_435_456;
 fn one_step(items: &mut ItemWorld, event: &ItemEvent) -> Result<ItemTold, Stop>
     requires stands { HasItems items.old }
     requires meant { IsMeantEvent event.now }
-    ensures takes { IfOk result (λ told. (s : State) → IsItems items.old s → TakesStep items.new told s event.now) }
+    ensures takes { IfOk result (λ told. (s : State) → IsItems items.old s →
+        TakesStep items.new told s event.now) }
     ensures causes { IfErr result (StepStops items.old event.now) }
 {
     let told = items.step(event)?;
@@ -34,7 +35,8 @@ fn one_step(items: &mut ItemWorld, event: &ItemEvent) -> Result<ItemTold, Stop>
 /// Delivers the least message that was neither delivered nor lost, up to `count` times, each in a step of its own.
 fn drained(alloc: Global, items: &mut ItemWorld, count: u32) -> Result<List<ItemLine>, Stop>
     requires stands { HasItems items.old }
-    ensures delivers { IfOk result (λ lines. (s : State) → IsItems items.old s → Delivers items.new lines count s) }
+    ensures delivers { IfOk result (λ lines. (s : State) → IsItems items.old s →
+        Delivers items.new lines count s) }
     ensures causes { IfErr result (DrainStops items.old count) }
 {
     let mut lines = List::new(alloc);
@@ -65,7 +67,8 @@ fn drain_count(event: &ItemEvent) -> Option<u32>
 pub fn takes(alloc: Global, items: &mut ItemWorld, event: &ItemEvent) -> Result<ItemTold, Stop>
     requires stands { HasItems items.old }
     requires meant { IsMeantEvent event.now }
-    ensures takes { IfOk result (λ told. (s : State) → IsItems items.old s → Takes items.new told s event.now) }
+    ensures takes { IfOk result (λ told. (s : State) → IsItems items.old s →
+        Takes items.new told s event.now) }
     ensures causes { IfErr result (EventStops items.old event.now) }
 {
     match drain_count(event) {

@@ -40,7 +40,8 @@ pub fn replay<O: Sink>(
     // Ok comes with the whole transcript. Sent and Number come where what was written, with the line of that limit, is how a
     // replay of the events ends; Write and Memory after a first part of it.
     ensures whole { OnOk result (IsWhole events.now (O.written output.old) (O.written output.new)) }
-    ensures halts { IfErr result (λ stop. Halts events.now stop (O.written output.old) (O.written output.new)) }
+    ensures halts { IfErr result
+        (λ stop. Halts events.now stop (O.written output.old) (O.written output.new)) }
 
     // A failed write comes only where the count of the output's faults rose, and is always told.
     ensures fault { result ≡ Err Stop.Write → Rose (O.faults output.old) (O.faults output.new) }

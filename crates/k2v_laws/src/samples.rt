@@ -13,12 +13,17 @@ ghost use Rattle.k2v_laws.specs.Requests.{writing, to_read, open_write, open_rea
 /// Two writes of one item at two nodes stand side by side. A write that gives the token of a read of both replaces them;
 /// and a deletion that replaces that one leaves nothing to tell, though a read shows it.
 pub fn concurrent_values()
-    ensures both { (bucket : Hash32) → values_told (Some (two_writes bucket)) ≡ shown_letter 1 1 97 ∷ shown_letter 2 2 98 ∷ [] }
-    ensures token { (bucket : Hash32) → map_entries (token_in (two_writes bucket)) ≡ (1, record { 0 = 1 }) ∷ (2, record { 0 = 2 }) ∷ [] }
-    ensures one { (bucket : Hash32) → values_told (Some (both_replaced bucket)) ≡ shown_letter 1 4 99 ∷ [] }
+    ensures both { (bucket : Hash32) →
+        values_told (Some (two_writes bucket)) ≡ shown_letter 1 1 97 ∷ shown_letter 2 2 98 ∷ [] }
+    ensures token { (bucket : Hash32) →
+        map_entries (token_in (two_writes bucket)) ≡ (1, record { 0 = 1 }) ∷
+        (2, record { 0 = 2 }) ∷ [] }
+    ensures one { (bucket : Hash32) →
+        values_told (Some (both_replaced bucket)) ≡ shown_letter 1 4 99 ∷ [] }
     ensures none { (bucket : Hash32) → values_told (Some (all_deleted bucket)) ≡ [] }
     ensures both_bytes { (bucket : Hash32) → spelled (two_writes bucket) ≡ two_writes_bytes bucket }
-    ensures one_bytes { (bucket : Hash32) → spelled (both_replaced bucket) ≡ both_replaced_bytes bucket }
+    ensures one_bytes { (bucket : Hash32) →
+        spelled (both_replaced bucket) ≡ both_replaced_bytes bucket }
 {}
 
 /// While a write of an item is open at a node, the next one there is refused, and one at another node or a read isn't. A

@@ -27,7 +27,8 @@ use world_laws::{empty_world_is_sound, sound_worlds_stay_sound};
 /// After turns that are played, fewer than 100,000 and with words in the grammar's ranges, each step of a further such event
 /// has room, where the replay goes on after each step of it before: so no replay stops for lack of room.
 pub fn played_item_turns_have_room()
-    ensures { (before : List Turn) (next : Turn) → ArePlayed before → AreAllowed before → length before < 100000 →
+    ensures { (before : List Turn) (next : Turn) → ArePlayed before → AreAllowed before →
+        length before < 100000 →
         IsAllowed next.numbered.event → IsLawful (run start before) next →
         (done : List Step) (last : Step) (later : List Step) →
         steps_of (run start before) next.numbered.event next.choice ≡ done ++ last ∷ later → AllByRecursion GoesOn done →
@@ -48,5 +49,6 @@ pub fn played_item_nodes_are_shown()
 
 /// An input that is a schedule over items has at most 100,000 events, whose words are in their ranges.
 pub fn item_schedules_are_within_limits()
-    ensures { (input : List ℕ) (events : List NumberedItemEvent) → IsSchedule input events → AreScheduled events }
+    ensures { (input : List ℕ) (events : List NumberedItemEvent) → IsSchedule input events →
+        AreScheduled events }
 {}

@@ -59,7 +59,8 @@ fn append_write_done(
     is_deletion: bool,
     node: u8,
 ) -> Result<(), Memory>
-    ensures ok { OnOk result (out.new ≡ out.old ++ line_text (item.WriteDone request is_deletion node)) }
+    ensures ok { OnOk result (out.new ≡ out.old ++ line_text
+        (item.WriteDone request is_deletion node)) }
     ensures want { OnlyWant result }
 {
     out.extend_from_slice(b"done")?;
@@ -141,7 +142,9 @@ fn refused_line(
     reason: &[u8],
     n: u64,
 ) -> Result<Bytes, Memory>
-    ensures text { IfOk result (λ t. t ≡ decimal line ++ word name.now ++ word (codes "refused" ++ word (reason.now ++ number n)) ++ 10 ∷ []) }
+    ensures text { IfOk result
+        (λ t. t ≡ decimal line ++ word name.now ++ word
+        (codes "refused" ++ word (reason.now ++ number n)) ++ 10 ∷ []) }
     ensures want { OnlyWant result }
 {
     let mut out = Bytes::new(alloc);
@@ -162,7 +165,9 @@ fn answer_line(
     refused: Option<ItemRefusal>,
     words: &Words,
 ) -> Result<Bytes, Memory>
-    ensures text { IfOk result (λ t. t ≡ decimal line ++ word name.now ++ word (answer_text refused words.now) ++ 10 ∷ []) }
+    ensures text { IfOk result
+        (λ t. t ≡ decimal line ++ word name.now ++ word (answer_text refused words.now) ++
+        10 ∷ []) }
     ensures want { OnlyWant result }
 {
     match refused {
@@ -180,7 +185,8 @@ fn answer_line(
 /// The lines of one event: `L NAME ok WORDS` or `L NAME refused REASON`, where L is its line in the schedule, counted from
 /// 1, and NAME its first word (`item_name`), and then those of what happened, in order.
 pub fn told_text(alloc: Global, line: u64, name: &[u8], told: ItemTold) -> Result<Bytes, Memory>
-    ensures text { IfOk result (λ t. t ≡ told_text line name.now told.refused told.words told.lines) }
+    ensures text { IfOk result
+        (λ t. t ≡ told_text line name.now told.refused told.words told.lines) }
     ensures want { OnlyWant result }
 {
     let mut out = answer_line(alloc, line, name, told.refused, &told.words)?;

@@ -24,17 +24,21 @@ pub fn no_item_replay_lacks_room()
 /// than may be, and never both. Done is stated of turns that are played, with their transcript; and where they are cut off,
 /// the limit, with what is written of the turns before and the line of that limit.
 pub fn item_turns_end_once()
-    ensures one { (turns : List Turn) → AreScheduled (events_of turns) → AreLawful start turns → ArePlayed turns ⊎ CutOff turns }
+    ensures one { (turns : List Turn) → AreScheduled (events_of turns) → AreLawful start turns →
+        ArePlayed turns ⊎ CutOff turns }
     ensures never_both { (turns : List Turn) → ArePlayed turns → CutOff turns → ⊥ }
-    ensures done { (turns : List Turn) → ArePlayed turns → IsReplay (events_of turns) Status.Done (transcript turns) }
-    ensures limit { (turns : List Turn) → AreLawful start turns → (cut : CutOff turns) → IsReplay (events_of turns) Status.Limit (front cut.before ++ sent_line) }
+    ensures done { (turns : List Turn) → ArePlayed turns →
+        IsReplay (events_of turns) Status.Done (transcript turns) }
+    ensures limit { (turns : List Turn) → AreLawful start turns → (cut : CutOff turns) →
+        IsReplay (events_of turns) Status.Limit (front cut.before ++ sent_line) }
 {
     played_item_turns_have_room();
 }
 
 /// A replay of such events has a stated end: each event can be given something lawful, and lawful turns are played or cut off.
 pub fn every_item_replay_ends()
-    ensures { (events : List NumberedItemEvent) → AreScheduled events → (status : Status) × ((text : List ℕ) × IsReplay events status text) }
+    ensures { (events : List NumberedItemEvent) → AreScheduled events → (status : Status) ×
+        ((text : List ℕ) × IsReplay events status text) }
 {
     item_turns_end_once();
 }
@@ -42,7 +46,8 @@ pub fn every_item_replay_ends()
 /// What is written of the first of such events, with layouts that are lawful, is the first part of a text that is stated for a
 /// replay of all of them: the events after them can be given something lawful, too.
 pub fn first_item_turns_go_further()
-    ensures { (events : List NumberedItemEvent) (turns : List Turn) → AreScheduled events → AreFirst events turns → GoesFurther events turns }
+    ensures { (events : List NumberedItemEvent) (turns : List Turn) → AreScheduled events →
+        AreFirst events turns → GoesFurther events turns }
 {
     item_turns_end_once();
 }

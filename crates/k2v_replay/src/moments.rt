@@ -9,7 +9,8 @@ use k2v_laws::items_keep_what_they_owe;
 
 /// At each moment of turns that were played, each delivery of a drain being one, the items keep what they owe.
 pub fn moments_keep_items()
-    ensures { (turns : List Turn) → ArePlayed turns → (moment : List Act) → IsMoment (acts_of turns) moment → KeepsItems moment }
+    ensures { (turns : List Turn) → ArePlayed turns → (moment : List Act) →
+        IsMoment (acts_of turns) moment → KeepsItems moment }
 {
     items_keep_what_they_owe();
 }

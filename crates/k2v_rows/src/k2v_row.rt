@@ -65,7 +65,8 @@ impl K2vRow {
     /// What a reader of this row has seen: for each node the greatest of its discard time and the times of its
     /// values.
     pub fn token(&self) -> Result<Map<u8, Max<u64>>, Memory>
-        ensures times { IfOk result (λ token. map_entries token ≡ token_entries (map_entries self.now.entries)) }
+        ensures times { IfOk result
+            (λ token. map_entries token ≡ token_entries (map_entries self.now.entries)) }
         ensures want { OnlyWant result }
     {
         let mut token = Map::new(self.entries.allocator());
@@ -139,7 +140,8 @@ fn raise_all(entries: &mut Map<u8, Writes>, token: &[(u8, Max<u64>)]) -> Result<
 }
 
 fn raise(entries: &mut Map<u8, Writes>, seen: &(u8, Max<u64>)) -> Result<(), Memory>
-    ensures raised { OnOk result (entries.new ≡ entries_join entries.old (map_single seen.now.0 (discarded seen.now.1))) }
+    ensures raised { OnOk result (entries.new ≡ entries_join entries.old
+        (map_single seen.now.0 (discarded seen.now.1))) }
     ensures want { OnlyWant result }
 {
     let discarded = Writes::discarded(entries.allocator(), seen.1.0);

@@ -19,9 +19,11 @@ pub fn rows_join_as_facts()
         value_of (row_join a b) node time ≡
         (if nat_le time (max (discard_at a node) (discard_at b node)) then None
         else option_join (larger value_cmp) (value_of a node time) (value_of b node time)) }
-    ensures kept { (a : K2vRow) (node time : ℕ) → time ≤ discard_at a node → value_of a node time ≡ None }
+    ensures kept { (a : K2vRow) (node time : ℕ) → time ≤ discard_at a node →
+        value_of a node time ≡ None }
     ensures key { (a b : K2vRow) → item_key a ≡ item_key b → item_key (row_join a b) ≡ item_key a }
-    ensures greater_key { (a b : K2vRow) → item_cmp (item_key a) (item_key b) ≡ Less → row_join a b ≡ b }
+    ensures greater_key { (a b : K2vRow) → item_cmp (item_key a) (item_key b) ≡ Less →
+        row_join a b ≡ b }
 {}
 
 /// A write that may be made raises the discard time of each node to the token's time of that node. Its value stands at
@@ -30,9 +32,12 @@ pub fn rows_join_as_facts()
 pub fn writes_are_facts()
     ensures discards { (r : K2vRow) (node time : ℕ) (value : ValueOf) (token : TimeMap) (at : ℕ) →
         discard_at (after_put r node time value token) at ≡ max (discard_at r at) (time_at token at) }
-    ensures stands { (r : K2vRow) (node time : ℕ) (value : ValueOf) (token : TimeMap) → IsTrue (can_put r node time token) →
+    ensures stands { (r : K2vRow) (node time : ℕ) (value : ValueOf) (token : TimeMap) →
+        IsTrue (can_put r node time token) →
         value_of (after_put r node time value token) node time ≡ option_join (larger value_cmp) (value_of r node time) (Some value) }
-    ensures others { (r : K2vRow) (node time : ℕ) (value : ValueOf) (token : TimeMap) (at when : ℕ) → ((at == node) && (when == time)) ≡ false →
+    ensures others { (r : K2vRow) (node time : ℕ) (value : ValueOf) (token : TimeMap)
+        (at when : ℕ) → ((at == node) && (when == time)) ≡ false →
         value_of (after_put r node time value token) at when ≡ (if nat_le when (time_at token at) then None else value_of r at when) }
-    ensures key { (r : K2vRow) (node time : ℕ) (value : ValueOf) (token : TimeMap) → item_key (after_put r node time value token) ≡ item_key r }
+    ensures key { (r : K2vRow) (node time : ℕ) (value : ValueOf) (token : TimeMap) →
+        item_key (after_put r node time value token) ≡ item_key r }
 {}

@@ -40,7 +40,8 @@ impl Writes {
     pub fn single(alloc: Global, time: u64, value: K2vValue) -> Result<Writes, Memory>
         requires { 0 < time }
         ensures discard { IfOk result (λ w. w.discard.0 ≡ 0) }
-        ensures values { IfOk result (λ w. map_entries w.values ≡ (time, record { 0 = value }) ∷ []) }
+        ensures values { IfOk result
+            (λ w. map_entries w.values ≡ (time, record { 0 = value }) ∷ []) }
         ensures want { OnlyWant result }
     {
         let mut values = Map::new(alloc);
@@ -104,7 +105,8 @@ fn merge_values(
     theirs: &Map<u64, Max<K2vValue>>,
     discard: u64,
 ) -> Result<(), Memory>
-    ensures joined { OnOk result (ours.new ≡ later_values discard (map_join (max_join value_cmp) ours.old theirs.now)) }
+    ensures joined { OnOk result
+        (ours.new ≡ later_values discard (map_join (max_join value_cmp) ours.old theirs.now)) }
     ensures unchanged { OnErr result (ours.new ≡ ours.old) }
     ensures want { OnlyWant result }
 {

@@ -65,7 +65,8 @@ pub fn decode(alloc: Global, bytes: &[u8]) -> Result<K2vRow, RowFault>
     ensures short { IfOk result (λ row. IsTrue (has_bytes row)) }
     ensures in_range { IfOk result (λ row. IsTrue (in_range row)) }
     ensures read { IfOk result (λ row. read bytes.now ≡ Some row) }
-    ensures causes { IfErr result (λ e. (e ≡ faults.Memory) ⊎ ((e ≡ faults.NotARow) × (read bytes.now ≡ None))) }
+    ensures causes { IfErr result (λ e. (e ≡ faults.Memory) ⊎
+        ((e ≡ faults.NotARow) × (read bytes.now ≡ None))) }
 {
     match whole(alloc, bytes) {
         Ok(row) => Ok(row),
@@ -77,7 +78,8 @@ pub fn decode(alloc: Global, bytes: &[u8]) -> Result<K2vRow, RowFault>
 /// What is read from bytes is the row that has them, and none is read where no row has them. So each row has one
 /// string of bytes, and each string is that of one row at most.
 pub fn rows_are_read_back()
-    ensures back { (row : K2vRow) (bytes : List ℕ) → (read bytes ≡ Some row) ↔ (spelling row ≡ Some bytes) }
+    ensures back { (row : K2vRow) (bytes : List ℕ) → (read bytes ≡ Some row) ↔
+        (spelling row ≡ Some bytes) }
     ensures none { (row : K2vRow) (bytes : List ℕ) → read bytes ≡ None →
         IsTrue (in_range row) → IsTrue (has_bytes row) → bytes ≢ spelled row }
 {}

@@ -14,14 +14,17 @@ ghost use Rattle.k2v_text.specs.Sample.{first_value, second_value, whole_line, b
 
 /// The event that is read of a line is the one that the line spells; so a line spells one event at most.
 pub fn every_item_line_reads()
-    ensures { (line : List ℕ) (event : ItemEvent) → (event_of line ≡ Some event) ↔ Spells line event }
+    ensures { (line : List ℕ) (event : ItemEvent) → (event_of line ≡ Some event) ↔
+        Spells line event }
 {}
 
 /// Every text is a schedule of events over items, or has a first line outside the grammar, or too many events before it; and
 /// the events of a schedule have their words in their ranges.
 pub fn every_item_text_reads()
-    ensures texts { (input : List ℕ) → ((events : List NumberedItemEvent) × IsSchedule input events) ⊎ (((n : ℕ) × IsFirstBadLine input n) ⊎ HasTooManyEvents input) }
-    ensures allowed { (input : List ℕ) (events : List NumberedItemEvent) → IsSchedule input events → All (λ e. IsAllowed e.event) events }
+    ensures texts { (input : List ℕ) → ((events : List NumberedItemEvent) ×
+        IsSchedule input events) ⊎ (((n : ℕ) × IsFirstBadLine input n) ⊎ HasTooManyEvents input) }
+    ensures allowed { (input : List ℕ) (events : List NumberedItemEvent) → IsSchedule input events →
+        All (λ e. IsAllowed e.event) events }
 {}
 
 /// The lines of finished requests for items, and the words of the refusals that they alone have.

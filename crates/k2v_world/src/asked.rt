@@ -40,7 +40,8 @@ pub fn is_write(ask: &Ask) -> bool
 
 /// The place of the first open write of this item at this node.
 pub fn open_write(requests: &[Asked], node: u8, bucket: &Hash32, item: &Item) -> Option<usize>
-    ensures { result ≡ position (is_open_write node (bucket.now, (item.now.pk, item.now.sk))) requests.now }
+    ensures { result ≡ position
+        (is_open_write node (bucket.now, (item.now.pk, item.now.sk))) requests.now }
 {
     requests
         .iter()

@@ -38,7 +38,8 @@ fn value_bytes(alloc: Global, size: u32, fill: u8) -> Result<Bytes, Memory>
 
 /// To write a value of `size` bytes, the first of which is `fill`, in the place of what a token has seen.
 pub fn put(alloc: Global, item: &Item, size: u32, fill: u8, token: u64) -> Result<Order, Memory>
-    ensures is { IfOk result (λ o. o ≡ record { item = item.now; ask = ask.Write (wrote.Value (bytes_of_object size fill)) token }) }
+    ensures is { IfOk result (λ o. o ≡
+        record { item = item.now; ask = ask.Write (wrote.Value (bytes_of_object size fill)) token }) }
     ensures want { OnlyWant result }
 {
     let bytes = value_bytes(alloc, size, fill)?;
@@ -53,7 +54,8 @@ pub fn put(alloc: Global, item: &Item, size: u32, fill: u8, token: u64) -> Resul
 
 /// To write that there is no value, in the place of what a token has seen.
 pub fn delete(item: &Item, token: u64) -> Result<Order, Memory>
-    ensures is { IfOk result (λ o. o ≡ record { item = item.now; ask = ask.Write wrote.Deleted token }) }
+    ensures is { IfOk result (λ o. o ≡
+        record { item = item.now; ask = ask.Write wrote.Deleted token }) }
     ensures want { OnlyWant result }
 {
     Ok(Order {

@@ -110,7 +110,8 @@ fn push_value(
 /// Appends the values of a node.
 #[tactic(auto, using(crate::proofs::Values::values_first))]
 fn push_values(shown: &mut List<ShownValue>, node: u8, writes: &Writes) -> Result<(), Memory>
-    ensures ok { OnOk result (shown.new ≡ shown.old ++ values_of node (map_entries writes.now.values)) }
+    ensures ok { OnOk result (shown.new ≡ shown.old ++ values_of node
+        (map_entries writes.now.values)) }
     ensures want { OnlyWant result }
 {
     for entry in writes.values.as_slice() {

@@ -112,7 +112,8 @@ impl ItemWorld {
 
     /// How many bytes the messages count that were ever sent.
     pub fn sent_bytes(&self) -> u64
-        ensures { (s : State) → IsItems self.now s → sent_bytes words s.world.messages ≡ Some result }
+        ensures { (s : State) → IsItems self.now s →
+            sent_bytes words s.world.messages ≡ Some result }
     {
         self.world.sent_bytes()
     }
@@ -126,8 +127,10 @@ impl ItemWorld {
 
     /// What a node shows of itself, None where it knows no layout version.
     pub fn node_line(&self, node: u8) -> Result<Option<NodeLine>, Memory>
-        ensures line { IfOk result (λ line. (s : State) → IsItems self.now s → option_map shown_line line ≡ node_line row_join words layouts s.world node) }
-        ensures causes { WantOr result ((s : State) → IsItems self.now s → IsTrue (any_unspelled words (rows row_join words (s.world.nodes node).accepted))) }
+        ensures line { IfOk result (λ line. (s : State) → IsItems self.now s →
+            option_map shown_line line ≡ node_line row_join words layouts s.world node) }
+        ensures causes { WantOr result ((s : State) → IsItems self.now s →
+            IsTrue (any_unspelled words (rows row_join words (s.world.nodes node).accepted))) }
     {
         self.world.node_line(node)
     }
@@ -166,7 +169,8 @@ impl ItemWorld {
     fn common(&mut self, event: &Event) -> Result<ItemTold, Memory>
         requires stands { HasItems self.old }
         requires meant { IsMeantEvent (ItemEvent.Common event.now) }
-        ensures plays { IfOk result (λ told. PlaysEvent self.old self.new told (ItemEvent.Common event.now)) }
+        ensures plays { IfOk result
+            (λ told. PlaysEvent self.old self.new told (ItemEvent.Common event.now)) }
         ensures causes { WantOr result (OverflowsEvent self.old (ItemEvent.Common event.now)) }
     {
         match event {
@@ -243,7 +247,8 @@ impl ItemWorld {
     // Ends a request that is open.
     fn expire(&mut self, request: u64) -> Result<ItemTold, Memory>
         requires stands { HasItems self.old }
-        ensures plays { IfOk result (λ told. PlaysStep self.old self.new told (step.Expire request)) }
+        ensures plays { IfOk result
+            (λ told. PlaysStep self.old self.new told (step.Expire request)) }
         ensures causes { WantOr result (OverflowsStep self.old (step.Expire request)) }
     {
         let report = self.world.step(Step::Expire(request))?;
@@ -264,7 +269,8 @@ impl ItemWorld {
 
     // A request that is open is over.
     fn end(&mut self, request: u64)
-        ensures { self.new ≡ record self.old { requests = ended_one self.old.requests request (numbered self.old.requests request) } }
+        ensures { self.new ≡
+            record self.old { requests = ended_one self.old.requests request (numbered self.old.requests request) } }
     {
         if let Some(i) = place(request, self.requests.len()) {
             if self.requests.at(i).is_open() {
@@ -275,7 +281,8 @@ impl ItemWorld {
 
     // A request that was to be expired is over, unless that was refused.
     fn end_unless(&mut self, refused: &Option<Refusal>, request: u64)
-        ensures { self.new ≡ record self.old { requests = ended_by self.old.requests request refused.now } }
+        ensures { self.new ≡
+            record self.old { requests = ended_by self.old.requests request refused.now } }
     {
         if refused.is_none() {
             self.end(request);
@@ -284,7 +291,8 @@ impl ItemWorld {
 
     // These requests are over, where they are open.
     fn end_all(&mut self, requests: &[u64])
-        ensures { self.new ≡ record self.old { requests = ended_all self.old.requests requests.now } }
+        ensures { self.new ≡
+            record self.old { requests = ended_all self.old.requests requests.now } }
     {
         for request in requests {
             self.end(*request);
@@ -293,7 +301,8 @@ impl ItemWorld {
 
     fn add_bucket(&mut self, name: &Bytes) -> Result<ItemTold, Memory>
         requires stands { HasItems self.old }
-        ensures plays { IfOk result (λ told. Plays self.old self.new told (λ s. acted s (adds name.now))) }
+        ensures plays { IfOk result (λ told. Plays self.old self.new told
+            (λ s. acted s (adds name.now))) }
         ensures want { OnlyWant result }
     {
         self.buckets.push(name.copy()?)?;
@@ -303,7 +312,8 @@ impl ItemWorld {
     // A request begins at a node, if it may.
     fn begins(&mut self, node: u8, order: Order) -> Result<ItemTold, Memory>
         requires stands { HasItems self.old }
-        ensures plays { IfOk result (λ told. Plays self.old self.new told (λ s. begins s node order)) }
+        ensures plays { IfOk result (λ told. Plays self.old self.new told
+            (λ s. begins s node order)) }
         ensures causes { WantOr result (Overflows self.old (λ s. begins s node order)) }
     {
         if !self.world.member(node) {
@@ -328,7 +338,8 @@ impl ItemWorld {
 
     // Why a write may not begin: its token isn't one, or another write of the item is open at the node.
     fn hindrance(&self, node: u8, bucket: &Hash32, order: &Order) -> Option<ItemRefusal>
-        ensures { result ≡ hindrance self.now.requests node (bucket.now, (order.now.item.pk, order.now.item.sk)) order.now.ask }
+        ensures { result ≡ hindrance self.now.requests node
+            (bucket.now, (order.now.item.pk, order.now.item.sk)) order.now.ask }
     {
         let Ask::Write { token, .. } = &order.ask else {
             return None;
@@ -344,7 +355,8 @@ impl ItemWorld {
 
     // Whether the number is 0, or that of a finished read of the item.
     fn is_token(&self, token: u64, bucket: &Hash32, item: &Item) -> bool
-        ensures { result ≡ is_token self.now.requests (bucket.now, (item.now.pk, item.now.sk)) token }
+        ensures { result ≡ is_token self.now.requests
+            (bucket.now, (item.now.pk, item.now.sk)) token }
     {
         match place(token, self.requests.len()) {
             Some(i) => {
@@ -358,7 +370,8 @@ impl ItemWorld {
     // The least number of an open write of the item at the node.
     #[tactic(auto, using(crate::proofs::Busy::busy_is))]
     fn busy(&self, node: u8, bucket: &Hash32, item: &Item) -> Option<u64>
-        ensures { result ≡ busy_from 1 self.now.requests node (bucket.now, (item.now.pk, item.now.sk)) }
+        ensures { result ≡ busy_from 1 self.now.requests node
+            (bucket.now, (item.now.pk, item.now.sk)) }
     {
         let found = open_write(self.requests.as_slice(), node, bucket, item)?;
         Some(found as u64 + 1)
@@ -368,8 +381,10 @@ impl ItemWorld {
     fn opens(&mut self, node: u8, bucket: Hash32, order: Order) -> Result<ItemTold, Memory>
         requires stands { HasItems self.old }
         requires bucket { bucket ≡ digest_of order.item.bucket }
-        ensures plays { IfOk result (λ told. PlaysIf (HasMember node) self.old self.new told (λ s. begins_reading s node order)) }
-        ensures causes { WantOr result (OverflowsIf (HasMember node) self.old (λ s. begins_reading s node order)) }
+        ensures plays { IfOk result (λ told. PlaysIf (HasMember node) self.old self.new told
+            (λ s. begins_reading s node order)) }
+        ensures causes { WantOr result (OverflowsIf (HasMember node) self.old
+            (λ s. begins_reading s node order)) }
     {
         let _ = self.world.step(Step::Open(node))?;
         let number = self.world.requests();
@@ -393,7 +408,8 @@ impl ItemWorld {
         requires stands { HasItems self.old }
         requires there { i < length self.old.requests }
         ensures goes { IfOk result (λ told. Stores self.old self.new told i request row) }
-        ensures causes { WantOr result (WorldOverflows row_join words self.old.world (storing_step request row)) }
+        ensures causes { WantOr result (WorldOverflows row_join words self.old.world
+            (storing_step request row)) }
     {
         let mut rows = List::new(self.alloc);
         rows.push((row, None))?;
@@ -415,7 +431,8 @@ impl ItemWorld {
         requires stands { HasItems self.old }
         requires there { i < length self.old.requests }
         ensures goes { IfOk result (λ told. Closes self.old self.new told i request stage line) }
-        ensures causes { WantOr result (WorldOverflows row_join words self.old.world (step.Close request)) }
+        ensures causes { WantOr result (WorldOverflows row_join words self.old.world
+            (step.Close request)) }
     {
         let _ = self.world.step(Step::Close(request))?;
         self.requests.at_mut(i).stage = stage;
@@ -468,7 +485,8 @@ impl ItemWorld {
     fn has_read(&mut self, i: usize, request: u64, read: Option<K2vRow>) -> Result<ItemTold, Memory>
         requires stands { HasItems self.old }
         requires reading { IsIn self.old i request doing.Reading }
-        ensures plays { IfOk result (λ told. Plays self.old self.new told (followed request (ends.Row read))) }
+        ensures plays { IfOk result
+            (λ told. Plays self.old self.new told (followed request (ends.Row read))) }
         ensures causes { WantOr result (Overflows self.old (followed request (ends.Row read))) }
     {
         match &self.requests.at(i).order.ask {
@@ -489,7 +507,8 @@ impl ItemWorld {
         requires stands { HasItems self.old }
         requires there { i < length self.old.requests }
         ensures goes { IfOk result (λ told. Finishes self.old self.new told i request read) }
-        ensures causes { WantOr result (WorldOverflows row_join words self.old.world (step.Close request)) }
+        ensures causes { WantOr result (WorldOverflows row_join words self.old.world
+            (step.Close request)) }
     {
         let times = token_of(self.alloc, &read)?;
         let values = values_told(self.alloc, &read)?;
@@ -505,7 +524,8 @@ impl ItemWorld {
     fn is_kept(&mut self, i: usize, request: u64) -> Result<ItemTold, Memory>
         requires stands { HasItems self.old }
         requires storing { IsIn self.old i request doing.Storing }
-        ensures plays { IfOk result (λ told. Plays self.old self.new told (followed request ends.Kept)) }
+        ensures plays { IfOk result
+            (λ told. Plays self.old self.new told (followed request ends.Kept)) }
         ensures causes { WantOr result (Overflows self.old (followed request ends.Kept)) }
     {
         let asked = self.requests.at(i);
@@ -546,7 +566,8 @@ impl ItemWorld {
     // What the request does whose phase ended, if one did.
     fn goes_on(&mut self, mut ends: List<(u64, PhaseEnd<K2vRow>)>) -> Result<ItemTold, Memory>
         requires stands { HasItems self.old }
-        ensures plays { IfOk result (λ told. Plays self.old self.new told (λ s. goes_on s (map ended ends))) }
+        ensures plays { IfOk result (λ told. Plays self.old self.new told
+            (λ s. goes_on s (map ended ends))) }
         ensures causes { WantOr result (Overflows self.old (λ s. goes_on s (map ended ends))) }
     {
         if ends.is_empty() {
@@ -559,7 +580,8 @@ impl ItemWorld {
     // Delivers a message.
     fn delivers(&mut self, message: u64) -> Result<ItemTold, Memory>
         requires stands { HasItems self.old }
-        ensures plays { IfOk result (λ told. Plays self.old self.new told (λ s. delivers s message)) }
+        ensures plays { IfOk result (λ told. Plays self.old self.new told
+            (λ s. delivers s message)) }
         ensures causes { WantOr result (Overflows self.old (λ s. delivers s message)) }
     {
         let report = self.world.step(Step::Deliver(message))?;

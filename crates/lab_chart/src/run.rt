@@ -107,8 +107,10 @@ fn asked_by(words: &[String]) -> Option<Drawing> {
 
 /// Writes what is replied, and says how that ended.
 fn written<O: Sink>(output: &mut O, replied: Result<Reply, Memory>) -> Status
-    ensures whole { result ≢ Status.WriteFault → IfOk replied (λ reply. Wrote (O.written output.old) (O.written output.new) reply.text) }
-    ensures write_fault { result ≡ Status.WriteFault → Rose (O.faults output.old) (O.faults output.new) }
+    ensures whole { result ≢ Status.WriteFault →
+        IfOk replied (λ reply. Wrote (O.written output.old) (O.written output.new) reply.text) }
+    ensures write_fault { result ≡ Status.WriteFault →
+        Rose (O.faults output.old) (O.faults output.new) }
     ensures unread { result ≢ Status.ReadFault }
     ensures undone { IfOk replied (λ reply. reply.status ≢ Status.Done) → result ≢ Status.Done }
 {
@@ -132,9 +134,11 @@ pub(crate) fn run<I: Source, O: Sink>(
     ensures end { result ≡ Status.Done → IsAtEnd (I.left input.new) }
 
     // A fault is answered only where that object's count rose, and nothing was written where a read failed.
-    ensures read_fault { result ≡ Status.ReadFault → Rose (I.faults input.old) (I.faults input.new) }
+    ensures read_fault { result ≡ Status.ReadFault →
+        Rose (I.faults input.old) (I.faults input.new) }
     ensures unwritten { result ≡ Status.ReadFault → output.new ≡ output.old }
-    ensures write_fault { result ≡ Status.WriteFault → Rose (O.faults output.old) (O.faults output.new) }
+    ensures write_fault { result ≡ Status.WriteFault →
+        Rose (O.faults output.old) (O.faults output.new) }
 {
     let Some(drawing) = asked_by(words) else {
         let usage = "usage: garage_lab chart < TRANSCRIPT | chart layout < LAYOUT";

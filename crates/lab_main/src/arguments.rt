@@ -11,7 +11,8 @@ use std::{env, io};
 /// The words after the program's name, as the program was told all of them. Where one of them is no text there are none,
 /// since no command has such a word, and no words ask for nothing either.
 fn after_name(alloc: Global, told: io::Result<Args>) -> Result<Vec<String>, AllocError>
-    ensures not_text { IfErr told (λ e. error_kind e ≡ ErrorKind.InvalidData → IsOkAnd result (λ words. words.items ≡ [])) }
+    ensures not_text { IfErr told (λ e. error_kind e ≡ ErrorKind.InvalidData →
+        IsOkAnd result (λ words. words.items ≡ [])) }
     ensures wanting { IfErr told (λ e. (error_kind e ≡ ErrorKind.InvalidData → ⊥) → IsErr result) }
 {
     match told {

@@ -24,7 +24,8 @@ use std::process::ExitCode;
 pub fn ends<O: Sink>(output: &mut O, text: &[u8], status: Status) -> Status
     // The status comes with the whole text. WriteFault may come in its place, where the count of faults rose, after a first
     // part of it.
-    ensures says { Ends status text.now result (O.written output.old) (O.written output.new) (O.faults output.old) (O.faults output.new) }
+    ensures says { Ends status text.now result (O.written output.old) (O.written output.new)
+        (O.faults output.old) (O.faults output.new) }
     ensures certain { (result ≡ status) ⊎ (result ≡ Status.WriteFault) }
     ensures counted { O.faults output.old ≤ O.faults output.new }
     ensures steady { (result ≡ Status.WriteFault) ⊎ (O.faults output.new ≡ O.faults output.old) }
@@ -37,7 +38,8 @@ pub fn ends<O: Sink>(output: &mut O, text: &[u8], status: Status) -> Status
 
 /// Says which words the laboratory's programs know.
 pub fn usage<O: Sink>(output: &mut O) -> Status
-    ensures says { Ends Status.Usage usage_line result (O.written output.old) (O.written output.new) (O.faults output.old) (O.faults output.new) }
+    ensures says { Ends Status.Usage usage_line result (O.written output.old) (O.written output.new)
+        (O.faults output.old) (O.faults output.new) }
     ensures counted { O.faults output.old ≤ O.faults output.new }
     ensures steady { (result ≡ Status.WriteFault) ⊎ (O.faults output.new ≡ O.faults output.old) }
 {

@@ -35,7 +35,9 @@ impl From<ReadStop> for InputStop {
 
 /// Reads the input to its end, or to the first byte past the limit.
 pub fn read_input<I: Source>(alloc: Global, input: &mut I) -> Result<Vec<u8>, InputStop>
-    ensures bytes { IfOk result (λ all. IfSome (I.left input.old) (λ bytes. (length bytes ≤ input_limit) × (all.items ≡ bytes))) }
+    ensures bytes { IfOk result
+        (λ all. IfSome (I.left input.old) (λ bytes. (length bytes ≤ input_limit) ×
+        (all.items ≡ bytes))) }
     ensures short { IfOk result (λ all. length all.items ≤ input_limit) }
     ensures reads { ReadsInput I.Source result input.old input.new }
 {
@@ -49,8 +51,11 @@ pub fn read_input<I: Source>(alloc: Global, input: &mut I) -> Result<Vec<u8>, In
 /// Says why there is no input to go on with, where that is said in the output.
 pub fn unread<O: Sink>(output: &mut O, stop: InputStop) -> Status
     ensures read { stop ≡ InputStop.Read → (result ≡ Status.ReadFault) × (output.new ≡ output.old) }
-    ensures memory { stop ≡ InputStop.Memory → (result ≡ Status.Memory) × (output.new ≡ output.old) }
-    ensures long { stop ≡ InputStop.Long → Ends Status.Limit input_line result (O.written output.old) (O.written output.new) (O.faults output.old) (O.faults output.new) }
+    ensures memory { stop ≡ InputStop.Memory → (result ≡ Status.Memory) ×
+        (output.new ≡ output.old) }
+    ensures long { stop ≡ InputStop.Long →
+        Ends Status.Limit input_line result (O.written output.old) (O.written output.new)
+        (O.faults output.old) (O.faults output.new) }
     ensures told { (result ≡ Status.WriteFault) ⊎ (O.faults output.new ≡ O.faults output.old) }
 {
     match stop {

@@ -41,7 +41,8 @@ impl Source for MemSource {
 
     fn read(&mut self, into: &mut [u8]) -> Result<usize, Failed>
         ensures count { IfOk result (λ n. n ≤ length into.old) }
-        ensures bytes { IfOk result (λ n. source_left self.old ≡ take n into.new ++ source_left self.new) }
+        ensures bytes { IfOk result
+            (λ n. source_left self.old ≡ take n into.new ++ source_left self.new) }
         ensures end { IfOk result (λ n. n ≡ 0 → 0 < length into.old → source_left self.new ≡ []) }
         ensures kept { OnErr result (source_left self.new ≡ source_left self.old) }
         ensures counted { source_faults self.old ≤ source_faults self.new }
@@ -49,7 +50,8 @@ impl Source for MemSource {
         ensures steady { OnOk result (source_faults self.new ≡ source_faults self.old) }
 
         // A read fails exactly where its number is among those that fail.
-        ensures planned { is_err result ≡ is_planned (source_plan self.old) (next_call (source_calls self.old)) }
+        ensures planned { is_err result ≡ is_planned (source_plan self.old)
+            (next_call (source_calls self.old)) }
         ensures calls { source_calls self.new ≡ next_call (source_calls self.old) }
         ensures plan { source_plan self.new ≡ source_plan self.old }
     {
@@ -107,8 +109,10 @@ impl Sink for MemSink {
         ensures steady { OnOk result (sink_faults self.new ≡ sink_faults self.old) }
 
         // A write takes all or fails: where its number is among those that fail, or memory to grow is refused.
-        ensures planned { IsTrue (is_planned (sink_plan self.old) (next_call (sink_calls self.old))) → IsErr result }
-        ensures refused { OnErr result (IsTrue (is_planned (sink_plan self.old) (next_call (sink_calls self.old)))
+        ensures planned { IsTrue
+            (is_planned (sink_plan self.old) (next_call (sink_calls self.old))) → IsErr result }
+        ensures refused { OnErr result
+            (IsTrue (is_planned (sink_plan self.old) (next_call (sink_calls self.old)))
             ⊎ GrowsFor self.old (length from.now)) }
         ensures calls { sink_calls self.new ≡ next_call (sink_calls self.old) }
         ensures plan { sink_plan self.new ≡ sink_plan self.old }

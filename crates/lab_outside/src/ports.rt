@@ -21,7 +21,8 @@ pub trait Source {
     /// Reads bytes into the front of `into`, and says how many.
     fn read(&mut self, into: &mut [u8]) -> Result<usize, Failed>
         ensures count { IfOk result (λ n. n ≤ length into.old) }
-        ensures bytes { IfOk result (λ n. Consumes (left self.old) (left self.new) (take n into.new)) }
+        ensures bytes { IfOk result
+            (λ n. Consumes (left self.old) (left self.new) (take n into.new)) }
         ensures end { IfOk result (λ n. n ≡ 0 → 0 < length into.old → IsAtEnd (left self.new)) }
         ensures kept { OnErr result (left self.new ≡ left self.old) }
         ensures counted { faults self.old ≤ faults self.new }
@@ -41,7 +42,8 @@ pub trait Sink {
     fn write(&mut self, from: &[u8]) -> Result<usize, Failed>
         ensures count { IfOk result (λ n. n ≤ length from.now) }
         ensures some { IfOk result (λ n. 0 < length from.now → 0 < n) }
-        ensures bytes { IfOk result (λ n. Wrote (written self.old) (written self.new) (take n from.now)) }
+        ensures bytes { IfOk result
+            (λ n. Wrote (written self.old) (written self.new) (take n from.now)) }
         ensures kept { OnErr result (written self.new ≡ written self.old) }
         ensures counted { faults self.old ≤ faults self.new }
         ensures fault { OnErr result (Rose (faults self.old) (faults self.new)) }
@@ -80,7 +82,8 @@ pub trait Link {
     fn next(&mut self) -> Result<bool, Failed>
         ensures comes { IsSome (present self.new) ↔ (result ≡ Ok true) }
         ensures fresh { IfSome (present self.new) IsFresh }
-        ensures takes { IfOk result (λ _. TakesNext (coming self.old) (coming self.new) (present self.new)) }
+        ensures takes { IfOk result
+            (λ _. TakesNext (coming self.old) (coming self.new) (present self.new)) }
         ensures kept { OnErr result (coming self.new ≡ coming self.old) }
         ensures goes { past self.new ≡ past self.old ++ option_to_list (present self.old) }
         ensures still_open { open_at self.new ≡ open_at self.old }
@@ -91,7 +94,8 @@ pub trait Link {
     /// Reads from the connection into the front of `into`, and says how many bytes.
     fn read(&mut self, into: &mut [u8]) -> Result<usize, Failed>
         requires { IsSome (present self.old) }
-        ensures reads { OnPresent (ReadsFrom result into.old into.new) (present self.old) (present self.new) }
+        ensures reads { OnPresent (ReadsFrom result into.old into.new) (present self.old)
+            (present self.new) }
         ensures still_coming { coming self.new ≡ coming self.old }
         ensures still_past { past self.new ≡ past self.old }
         ensures still_open { open_at self.new ≡ open_at self.old }
@@ -100,7 +104,8 @@ pub trait Link {
     /// Writes bytes from the front of `from` to the connection, and says how many.
     fn write(&mut self, from: &[u8]) -> Result<usize, Failed>
         requires { IsSome (present self.old) }
-        ensures writes { OnPresent (WritesTo result from.now) (present self.old) (present self.new) }
+        ensures writes { OnPresent (WritesTo result from.now) (present self.old)
+            (present self.new) }
         ensures still_coming { coming self.new ≡ coming self.old }
         ensures still_past { past self.new ≡ past self.old }
         ensures still_open { open_at self.new ≡ open_at self.old }

@@ -9,7 +9,8 @@ use crate::ports::{Failed, Link};
 pub fn send_whole<L: Link>(link: &mut L, bytes: &[u8]) -> Result<(), Failed>
     requires { IsSome (L.present link.old) }
     ensures present { IsSome (L.present link.new) }
-    ensures writes { OnPresent (WritesWhole result bytes.now) (L.present link.old) (L.present link.new) }
+    ensures writes { OnPresent (WritesWhole result bytes.now) (L.present link.old)
+        (L.present link.new) }
     ensures stays { Stays L.Link link.old link.new }
 {
     let mut rest = bytes;

@@ -35,7 +35,8 @@ impl<R: Read> Source for StdSource<R> {
         ensures steady { OnOk result (read_faults self.new ≡ read_faults self.old) }
 
         // What the reader tells of its bytes is so of what was read.
-        ensures bytes { ReadConsumes (R.remaining (reader_of self.old)) (R.remaining (reader_of self.new)) result into.new }
+        ensures bytes { ReadConsumes (R.remaining (reader_of self.old))
+            (R.remaining (reader_of self.new)) result into.new }
     {
         match self.reader.read(into) {
             Ok(count) => Ok(count),
@@ -76,7 +77,8 @@ impl<W: Write> Sink for StdSink<W> {
         ensures steady { OnOk result (write_faults self.new ≡ write_faults self.old) }
 
         // What the writer tells of its bytes has grown by what was written.
-        ensures bytes { WriteAppends (W.contents (writer_of self.old)) (W.contents (writer_of self.new)) result from.now }
+        ensures bytes { WriteAppends (W.contents (writer_of self.old))
+            (W.contents (writer_of self.new)) result from.now }
     {
         match self.writer.write(from) {
             Ok(count) if count > 0 || from.is_empty() => Ok(count),

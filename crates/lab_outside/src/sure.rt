@@ -46,7 +46,8 @@ impl Source for SureSource {
 
     fn read(&mut self, into: &mut [u8]) -> Result<usize, Failed>
         ensures count { IfOk result (λ n. n ≤ length into.old) }
-        ensures bytes { IfOk result (λ n. bytes_left self.old ≡ take n into.new ++ bytes_left self.new) }
+        ensures bytes { IfOk result
+            (λ n. bytes_left self.old ≡ take n into.new ++ bytes_left self.new) }
         ensures end { IfOk result (λ n. n ≡ 0 → 0 < length into.old → bytes_left self.new ≡ []) }
         ensures sure { IsOk result }
     {
@@ -90,7 +91,8 @@ impl SureSink {
 
     /// Takes all the bytes.
     pub(crate) fn take(&mut self, from: &[u8])
-        ensures bytes { bytes_written self.new ≡ told_after (bytes_written self.old) from.now (buffer_size self.old) }
+        ensures bytes { bytes_written self.new ≡ told_after (bytes_written self.old) from.now
+            (buffer_size self.old) }
         ensures size { buffer_size self.new ≡ buffer_size self.old }
     {
         if from.len() > self.size - self.bytes.len() {
@@ -112,7 +114,8 @@ impl Sink for SureSink {
     fn write(&mut self, from: &[u8]) -> Result<usize, Failed>
         // A write takes all, and is told while it has room.
         ensures all { result ≡ Ok (length from.now) }
-        ensures told { bytes_written self.new ≡ told_after (bytes_written self.old) from.now (buffer_size self.old) }
+        ensures told { bytes_written self.new ≡ told_after (bytes_written self.old) from.now
+            (buffer_size self.old) }
         ensures size { buffer_size self.new ≡ buffer_size self.old }
     {
         self.take(from);

@@ -28,7 +28,8 @@ impl SureConnection {
     }
 
     pub fn read(&mut self, into: &mut [u8]) -> Result<usize, Failed>
-        ensures { ReadsFrom result into.old into.new (connection_of self.old) (connection_of self.new) }
+        ensures { ReadsFrom result into.old into.new (connection_of self.old)
+            (connection_of self.new) }
     {
         self.input.read(into)
     }

@@ -24,7 +24,9 @@ pub struct SureLink {
 impl SureLink {
     /// Connections that give these bytes, with a buffer of `size` bytes each for what they are sent.
     pub fn new(alloc: Global, connections: Vec<Vec<u8>>, size: usize) -> Result<Self, AllocError>
-        ensures coming { IfOk result (λ link. ⟦<SureLink as Link>⟧.coming link ≡ Some (map (λ bytes. bytes.items) connections.items)) }
+        ensures coming { IfOk result
+            (λ link. ⟦<SureLink as Link>⟧.coming link ≡ Some (map
+            (λ bytes. bytes.items) connections.items)) }
         ensures present { IfOk result (λ link. ⟦<SureLink as Link>⟧.present link ≡ None) }
         ensures past { IfOk result (λ link. ⟦<SureLink as Link>⟧.past link ≡ []) }
         ensures faults { IfOk result (λ link. ⟦<SureLink as Link>⟧.faults link ≡ 0) }
@@ -44,8 +46,11 @@ impl SureLink {
 
     /// What was written to a connection, counted from 0 in the order in which they came, where it is told.
     pub fn written(&self, i: usize) -> Option<&[u8]>
-        requires came { i < length (⟦<SureLink as Link>⟧.past self.now ++ option_to_list (⟦<SureLink as Link>⟧.present self.now)) }
-        ensures told { option_map (λ bytes. bytes.now) result ≡ written_at (⟦<SureLink as Link>⟧.past self.now ++ option_to_list (⟦<SureLink as Link>⟧.present self.now)) i }
+        requires came { i < length (⟦<SureLink as Link>⟧.past self.now ++ option_to_list
+            (⟦<SureLink as Link>⟧.present self.now)) }
+        ensures told { option_map
+            (λ bytes. bytes.now) result ≡ written_at (⟦<SureLink as Link>⟧.past self.now ++
+            option_to_list (⟦<SureLink as Link>⟧.present self.now)) i }
     {
         if i < self.past.len() {
             return self.past[i].written();
@@ -59,7 +64,8 @@ impl SureLink {
     /// Ends the connection that is present, if one is.
     fn settle(&mut self)
         ensures present { self.new.present ≡ None }
-        ensures past { self.new.past.items ≡ self.old.past.items ++ option_to_list self.old.present }
+        ensures past { self.new.past.items ≡ self.old.past.items ++
+            option_to_list self.old.present }
         ensures coming { self.new.coming ≡ self.old.coming }
         ensures port { self.new.port ≡ self.old.port }
     {

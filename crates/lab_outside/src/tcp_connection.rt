@@ -82,7 +82,8 @@ impl<S: Read + Write + OpenStream + Drop> TcpConnection<S> {
         into: &mut [u8],
         queue: &mut TcpQueue<L, S>,
     ) -> Result<usize, Failed>
-        ensures reads { ReadsFrom result into.old into.new (untold (faults_of self.old)) (untold (faults_of self.new)) }
+        ensures reads { ReadsFrom result into.old into.new (untold (faults_of self.old))
+            (untold (faults_of self.new)) }
         ensures port { queue_port queue.new ≡ queue_port queue.old }
     {
         let mut patience = self.patience();
@@ -111,7 +112,8 @@ impl<S: Read + Write + OpenStream + Drop> TcpConnection<S> {
         from: &[u8],
         queue: &mut TcpQueue<L, S>,
     ) -> Result<usize, Failed>
-        ensures writes { WritesTo result from.now (untold (faults_of self.old)) (untold (faults_of self.new)) }
+        ensures writes { WritesTo result from.now (untold (faults_of self.old))
+            (untold (faults_of self.new)) }
         ensures port { queue_port queue.new ≡ queue_port queue.old }
     {
         let mut patience = Patience::new(true);

@@ -32,9 +32,12 @@ impl<R: Net + rt::Clock + Eprint + Drop> TcpLink<R, R::Listener, R::Stream> {
     /// A link that isn't open yet, with the room that it will need.
     pub fn new(alloc: Global, runtime: R) -> Result<Self, AllocError>
         ensures closed { IfOk result (λ link. port_of link ≡ None) }
-        ensures present { IfOk result (λ link. ⟦<TcpLink<R, R::Listener, R::Stream> as Link>⟧.present link ≡ None) }
-        ensures past { IfOk result (λ link. ⟦<TcpLink<R, R::Listener, R::Stream> as Link>⟧.past link ≡ []) }
-        ensures faults { IfOk result (λ link. ⟦<TcpLink<R, R::Listener, R::Stream> as Link>⟧.faults link ≡ 0) }
+        ensures present { IfOk result
+            (λ link. ⟦<TcpLink<R, R::Listener, R::Stream> as Link>⟧.present link ≡ None) }
+        ensures past { IfOk result
+            (λ link. ⟦<TcpLink<R, R::Listener, R::Stream> as Link>⟧.past link ≡ []) }
+        ensures faults { IfOk result
+            (λ link. ⟦<TcpLink<R, R::Listener, R::Stream> as Link>⟧.faults link ≡ 0) }
     {
         let past = Vec::with_capacity(alloc, CONNECTIONS)?;
         Ok(TcpLink {
@@ -49,7 +52,8 @@ impl<R: Net + rt::Clock + Eprint + Drop> TcpLink<R, R::Listener, R::Stream> {
     /// Ends the connection that is present, if one is.
     fn settle(&mut self)
         ensures present { self.new.present ≡ None }
-        ensures past { self.new.past.items ≡ self.old.past.items ++ option_to_list (option_map faults_of self.old.present) }
+        ensures past { self.new.past.items ≡ self.old.past.items ++ option_to_list
+            (option_map faults_of self.old.present) }
         ensures faults { self.new.faults ≡ self.old.faults }
         ensures port { port_of self.new ≡ port_of self.old }
     {

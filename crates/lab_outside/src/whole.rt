@@ -47,14 +47,18 @@ pub fn read_up_to<I: Source>(
     input: &mut I,
     limit: usize,
 ) -> Result<Vec<u8>, ReadStop>
-    ensures bytes { IfOk result (λ all. IfSome (I.left input.old) (λ bytes. all.items ≡ take (limit + 1) bytes)) }
-    ensures left { OnOk result (IfSome (I.left input.old) (λ bytes. I.left input.new ≡ Some (drop (limit + 1) bytes))) }
+    ensures bytes { IfOk result
+        (λ all. IfSome (I.left input.old) (λ bytes. all.items ≡ take (limit + 1) bytes)) }
+    ensures left { OnOk result (IfSome (I.left input.old)
+        (λ bytes. I.left input.new ≡ Some (drop (limit + 1) bytes))) }
     ensures count { IfOk result (λ all. length all.items ≤ limit + 1) }
 
     // A short answer is the whole input, and a long one says that the input is longer than the limit.
     ensures whole { IfOk result (λ all. length all.items ≤ limit → IsAtEnd (I.left input.new)) }
-    ensures short { IfOk result (λ all. IfSome (I.left input.old) (λ bytes. length bytes ≤ limit → all.items ≡ bytes)) }
-    ensures long { IfOk result (λ all. IfSome (I.left input.old) (λ bytes. limit < length bytes → length all.items ≡ limit + 1)) }
+    ensures short { IfOk result (λ all. IfSome (I.left input.old) (λ bytes. length bytes ≤ limit →
+        all.items ≡ bytes)) }
+    ensures long { IfOk result (λ all. IfSome (I.left input.old) (λ bytes. limit < length bytes →
+        length all.items ≡ limit + 1)) }
 
     ensures consumed { ConsumesPrefix (I.left input.old) (I.left input.new) }
     ensures counted { I.faults input.old ≤ I.faults input.new }
@@ -80,7 +84,8 @@ pub fn read_up_to<I: Source>(
 /// Writes all the bytes.
 pub fn write_whole<O: Sink>(output: &mut O, bytes: &[u8]) -> Result<(), Failed>
     ensures ok { OnOk result (Wrote (O.written output.old) (O.written output.new) bytes.now) }
-    ensures err { OnErr result (WrotePrefix (O.written output.old) (O.written output.new) bytes.now) }
+    ensures err { OnErr result (WrotePrefix (O.written output.old)
+        (O.written output.new) bytes.now) }
     ensures counted { O.faults output.old ≤ O.faults output.new }
     ensures fault { OnErr result (Rose (O.faults output.old) (O.faults output.new)) }
     ensures steady { OnOk result (O.faults output.new ≡ O.faults output.old) }

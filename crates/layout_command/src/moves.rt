@@ -37,8 +37,10 @@ fn fewest_sets(roles: &Roles, certified: &Certified, old: &Assignment) -> Result
     requires high { certified.now.r ≤ 3 }
     requires some { 0 < certified.now.size }
     requires fits { Fits roles.now.list certified.now.r certified.now.size certified.now.sets.sets }
-    ensures fits { IfOk result (λ moved. Fits roles.now.list certified.now.r certified.now.size moved.sets.sets) }
-    ensures fewest { IfOk result (λ moved. AreFewest roles.now.list certified.now.r certified.now.size old.now.sets moved.sets.sets moved.moves moved.potentials) }
+    ensures fits { IfOk result
+        (λ moved. Fits roles.now.list certified.now.r certified.now.size moved.sets.sets) }
+    ensures fewest { IfOk result
+        (λ moved. AreFewest roles.now.list certified.now.r certified.now.size old.now.sets moved.sets.sets moved.moves moved.potentials) }
     ensures want { OnlyWant result }
 {
     match fewest(roles, certified.r, certified.size, old) {
@@ -56,7 +58,8 @@ fn moves_lines(
     moves: u32,
     potentials: &[(Vertex, i64)],
 ) -> Result<Bytes, Memory>
-    ensures text { IfOk result (λ text. text ≡ moves_text roles.now.list certified.now moves potentials.now) }
+    ensures text { IfOk result
+        (λ text. text ≡ moves_text roles.now.list certified.now moves potentials.now) }
     ensures want { OnlyWant result }
 {
     let mut text = layout_lines(alloc, certified, roles)?;
@@ -75,7 +78,8 @@ fn with_fewest(
     requires redundancy { IsRedundancy config.now.redundancy }
     requires enough { AreEnough (settings_of config.now) }
     requires layout { IsLayout (settings_of config.now) certified }
-    ensures stated { IfOk result (λ reply. IsMoved (settings_of config.now) old.now.sets reply.status reply.text) }
+    ensures stated { IfOk result
+        (λ reply. IsMoved (settings_of config.now) old.now.sets reply.status reply.text) }
     ensures want { OnlyWant result }
 {
     let moved = fewest_sets(&config.roles, &certified, old)?;
@@ -96,7 +100,8 @@ fn with_fewest(
 // Lays out the roles of a configuration with the fewest moves.
 fn move_copies(alloc: Global, config: &Config, old: &Assignment) -> Result<Reply, Memory>
     requires { IsRedundancy config.now.redundancy }
-    ensures stated { IfOk result (λ reply. IsMoved (settings_of config.now) old.now.sets reply.status reply.text) }
+    ensures stated { IfOk result
+        (λ reply. IsMoved (settings_of config.now) old.now.sets reply.status reply.text) }
     ensures want { OnlyWant result }
 {
     match compute(alloc, &config.roles, config.redundancy) {
@@ -109,7 +114,8 @@ fn move_copies(alloc: Global, config: &Config, old: &Assignment) -> Result<Reply
 fn with_old(alloc: Global, config: &Config, text: &str) -> Result<Reply, Memory>
     requires redundancy { IsRedundancy config.now.redundancy }
     requires said { said greatest_node text.now ≡ Ok (settings_of config.now) }
-    ensures stated { IfOk result (λ reply. IsUtf8 text.now → IsMovesAnswer text.now reply.status reply.text) }
+    ensures stated { IfOk result (λ reply. IsUtf8 text.now →
+        IsMovesAnswer text.now reply.status reply.text) }
     ensures want { OnlyWant result }
 {
     match read_old(alloc, text) {
@@ -122,7 +128,8 @@ fn with_old(alloc: Global, config: &Config, text: &str) -> Result<Reply, Memory>
 
 // What the command answers to a text.
 fn moves_answer_text(alloc: Global, text: &str) -> Result<Reply, Memory>
-    ensures stated { IfOk result (λ reply. IsUtf8 text.now → IsMovesAnswer text.now reply.status reply.text) }
+    ensures stated { IfOk result (λ reply. IsUtf8 text.now →
+        IsMovesAnswer text.now reply.status reply.text) }
     ensures want { OnlyWant result }
 {
     match read_config(alloc, text, GREATEST_NODE) {

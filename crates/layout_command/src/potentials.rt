@@ -35,7 +35,8 @@ fn partition_words(alloc: Global, entries: &[(Vertex, i64)], partition: u8) -> R
 
 // The potentials of each partition's vertices.
 fn all_words(alloc: Global, entries: &[(Vertex, i64)]) -> Result<List<Bytes>, Memory>
-    ensures words { IfOk result (λ all. all ≡ map (partition_words entries.now) (range_with_len 0 256)) }
+    ensures words { IfOk result
+        (λ all. all ≡ map (partition_words entries.now) (range_with_len 0 256)) }
     ensures want { OnlyWant result }
 {
     let mut all = List::new(alloc);
@@ -57,7 +58,8 @@ fn append_line(out: &mut Bytes, first: usize, last: usize, words: &[u8]) -> Resu
 }
 
 fn append_runs(out: &mut Bytes, words: &[Bytes]) -> Result<(), Memory>
-    ensures ok { OnOk result (out.new ≡ out.old ++ run_lines partition_line 0 (runs (pointwise nat_eq) words.now)) }
+    ensures ok { OnOk result (out.new ≡ out.old ++ run_lines partition_line 0
+        (runs (pointwise nat_eq) words.now)) }
     ensures want { OnlyWant result }
 {
     let mut first = 0;

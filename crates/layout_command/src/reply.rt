@@ -38,7 +38,8 @@ pub(crate) fn refused(text: Bytes) -> Reply
 // Lays out the roles of a configuration.
 fn lay_out(alloc: Global, config: &Config) -> Result<Reply, Memory>
     requires { IsRedundancy config.now.redundancy }
-    ensures stated { IfOk result (λ reply. IsLaidOut (settings_of config.now) reply.status reply.text) }
+    ensures stated { IfOk result
+        (λ reply. IsLaidOut (settings_of config.now) reply.status reply.text) }
     ensures want { OnlyWant result }
 {
     match compute(alloc, &config.roles, config.redundancy) {
@@ -55,7 +56,8 @@ fn lay_out(alloc: Global, config: &Config) -> Result<Reply, Memory>
 
 // What the command answers to a text.
 fn answer_text(alloc: Global, text: &str) -> Result<Reply, Memory>
-    ensures stated { IfOk result (λ reply. IsUtf8 text.now → IsAnswer text.now reply.status reply.text) }
+    ensures stated { IfOk result (λ reply. IsUtf8 text.now →
+        IsAnswer text.now reply.status reply.text) }
     ensures want { OnlyWant result }
 {
     match read_config(alloc, text, GREATEST_NODE) {

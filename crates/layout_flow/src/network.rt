@@ -72,7 +72,8 @@ impl Network {
     // Whether there is room for three copies of each partition, where no zone gets more of one than the
     // redundancy leaves to it.
     fn has_room(&self) -> bool
-        ensures { IsTrue result ↔ (768 ≤ copies_for 256 self.now.roles.list self.now.size (4 - self.now.r)) }
+        ensures { IsTrue result ↔
+            (768 ≤ copies_for 256 self.now.roles.list self.now.size (4 - self.now.r)) }
     {
         self.copies(4 - self.r) == ALL_COPIES
     }
@@ -86,10 +87,15 @@ impl Network {
 
     /// An assignment that fits, where there is one, and else the printed cut.
     pub fn max_flow(&self) -> Result<FlowOrCut, Memory>
-        ensures flow { IfOk result (λ answer. IfFlow answer (λ assignment. Fits self.now.roles.list self.now.r self.now.size assignment.sets)) }
-        ensures cut { IfOk result (λ answer. IfCut answer (λ cut. IsPrintedCut self.now.roles.list self.now.r self.now.size cut)) }
+        ensures flow { IfOk result
+            (λ answer. IfFlow answer
+            (λ assignment. Fits self.now.roles.list self.now.r self.now.size assignment.sets)) }
+        ensures cut { IfOk result
+            (λ answer. IfCut answer
+            (λ cut. IsPrintedCut self.now.roles.list self.now.r self.now.size cut)) }
         ensures light { IfOk result (λ answer. IfCut answer (λ cut. cut.weight < 768)) }
-        ensures none { IfOk result (λ answer. IfCut answer (λ _. NoneFits self.now.roles.list self.now.r self.now.size)) }
+        ensures none { IfOk result
+            (λ answer. IfCut answer (λ _. NoneFits self.now.roles.list self.now.r self.now.size)) }
         ensures want { OnlyWant result }
     {
         if self.has_room() {
@@ -102,7 +108,8 @@ impl Network {
     // The copies laid out in three rows.
     fn flow(&self) -> Result<Assignment, Memory>
         requires { 768 ≤ copies_for 256 self.now.roles.list self.now.size (4 - self.now.r) }
-        ensures fits { IfOk result (λ assignment. Fits self.now.roles.list self.now.r self.now.size assignment.sets) }
+        ensures fits { IfOk result
+            (λ assignment. Fits self.now.roles.list self.now.r self.now.size assignment.sets) }
         ensures want { OnlyWant result }
     {
         let alloc = self.groups.allocator();
@@ -123,7 +130,8 @@ impl Network {
     // The printed cut.
     fn cut(&self) -> Result<Cut, Memory>
         requires { copies_for 256 self.now.roles.list self.now.size (4 - self.now.r) < 768 }
-        ensures printed { IfOk result (λ cut. IsPrintedCut self.now.roles.list self.now.r self.now.size cut) }
+        ensures printed { IfOk result
+            (λ cut. IsPrintedCut self.now.roles.list self.now.r self.now.size cut) }
         ensures light { IfOk result (λ cut. cut.weight < 768) }
         ensures want { OnlyWant result }
     {

@@ -45,7 +45,8 @@ pub fn copies_in_order(
     each: u8,
 ) -> Result<List<u8>, Memory>
     requires { 0 < size }
-    ensures copies { IfOk result (λ copies. copies ≡ take 768 (flat_map (zone_copies 256 size each) zones.now)) }
+    ensures copies { IfOk result
+        (λ copies. copies ≡ take 768 (flat_map (zone_copies 256 size each) zones.now)) }
     ensures want { OnlyWant result }
 {
     let mut copies = List::new(alloc);

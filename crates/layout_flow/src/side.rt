@@ -23,7 +23,8 @@ fn holds_zone(zone: &[Role], size: u64, each: u8) -> bool
 // Whether the node is one of the zone's, and has room for fewer than all partitions.
 fn has_little_room(zone: &[Role], size: u64, node: u8) -> bool
     requires { 0 < size }
-    ensures { result ≡ list_any (λ role. (role.node == node) && nat_lt (room size role) 256) zone.now }
+    ensures { result ≡ list_any
+        (λ role. (role.node == node) && nat_lt (room size role) 256) zone.now }
 {
     zone.iter().any(|role| role.node == node && role.room(size) < u64::from(PARTITIONS))
 }

@@ -23,7 +23,8 @@ fn two_synced(trackers: &Trackers, set: &[u8; 3], v: u32, missing: u32) -> bool
 /// Whether two of the three nodes of each set have synced to version v, where one without an entry counts
 /// as of version `missing`.
 pub fn all_synced(trackers: &Trackers, sets: &[[u8; 3]], v: u32, missing: u32) -> bool
-    ensures { result ≡ list_all (two_pass (λ node. leb v (counts missing Sync trackers.now node))) sets.now }
+    ensures { result ≡ list_all (two_pass
+        (λ node. leb v (counts missing Sync trackers.now node))) sets.now }
 {
     sets.iter().all(|set| two_synced(trackers, set, v, missing))
 }
@@ -36,7 +37,8 @@ pub fn least_in(
     missing: u32,
     before: Option<u32>,
 ) -> Option<u32>
-    ensures { result ≡ fold lesser before (map (counts missing which trackers.now) (map (λ role. role.node) roles.now)) }
+    ensures { result ≡ fold lesser before (map (counts missing which trackers.now) (map
+        (λ role. role.node) roles.now)) }
 {
     let mut least = before;
     for role in roles {

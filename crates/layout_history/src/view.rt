@@ -33,7 +33,8 @@ impl View {
     /// Without a version and without an entry.
     pub fn new(alloc: Global) -> View
         ensures no_layouts { (known result).layouts ≡ [] }
-        ensures no_entries { (which : Which) (node : ℕ) → entry which node (known result).trackers ≡ None }
+        ensures no_entries { (which : Which) (node : ℕ) →
+            entry which node (known result).trackers ≡ None }
     {
         View {
             layouts: List::new(alloc),
@@ -80,7 +81,8 @@ impl View {
 
     /// The three nodes that version v gives a partition, ascending, where the version is stored.
     pub fn set(&self, v: u32, p: u8) -> Option<[u8; 3]>
-        ensures { result ≡ option_and_then (λ l. slice_get l.sets.sets p) (layout_at reading (known self.now) v) }
+        ensures { result ≡ option_and_then
+            (λ l. slice_get l.sets.sets p) (layout_at reading (known self.now) v) }
     {
         match self.layout(v) {
             Some(layout) => Some(layout.sets.set(p)),
@@ -90,7 +92,8 @@ impl View {
 
     /// The kind of the role that version v gives a node, where the version is stored and the node has one.
     pub fn role(&self, v: u32, node: u8) -> Option<Kind>
-        ensures { result ≡ option_and_then (λ l. kind_of l node) (layout_at reading (known self.now) v) }
+        ensures { result ≡ option_and_then
+            (λ l. kind_of l node) (layout_at reading (known self.now) v) }
     {
         match self.layout(v) {
             Some(layout) => kind_in(layout.roles.list.as_slice(), node),
@@ -172,7 +175,8 @@ impl View {
 
     /// Takes in all that the other view knows. Where both store a version, this view's layout of it stays.
     pub fn merge(&mut self, other: &View) -> Result<(), Memory>
-        ensures merged { OnOk result (known self.new ≡ merged reading (known self.old) (known other.now)) }
+        ensures merged { OnOk result (known self.new ≡ merged reading (known self.old)
+            (known other.now)) }
         ensures unchanged { OnErr result (self.new ≡ self.old) }
         ensures want { OnlyWant result }
     {
@@ -189,7 +193,8 @@ impl View {
 
     /// Raises a node's entry, which never lowers it.
     pub fn raise(&mut self, which: Which, node: u8, v: u32) -> Result<(), Memory>
-        ensures raised { OnOk result (known self.new ≡ with_entry reading which node v (known self.old)) }
+        ensures raised { OnOk result (known self.new ≡ with_entry reading which node v
+            (known self.old)) }
         ensures unchanged { OnErr result (self.new ≡ self.old) }
         ensures want { OnlyWant result }
     {

@@ -17,7 +17,8 @@ use std::alloc::Global;
 
 // What an edge adds to the weight: its capacity, where it leaves the side.
 fn leaving(side: &Marked<'_>, from: Vertex, to: Vertex, capacity: u64) -> u64
-    ensures { result ≡ cond (leaves (set_of side.now.vertices.now) (edge from to capacity)) capacity 0 }
+    ensures { result ≡ cond (leaves (set_of side.now.vertices.now)
+        (edge from to capacity)) capacity 0 }
 {
     if side.has(from) && !side.has(to) {
         capacity
@@ -29,7 +30,8 @@ fn leaving(side: &Marked<'_>, from: Vertex, to: Vertex, capacity: u64) -> u64
 // What the edges of a partition to and from a zone add.
 fn zone_weight(side: &Marked<'_>, r: u8, p: u8, number: u8, zone: &[Role]) -> u64
     requires { r ≤ 3 }
-    ensures { result ≡ at_most (weight (zone_edges r p (number, zone.now)) (set_of side.now.vertices.now)) }
+    ensures { result ≡ at_most (weight (zone_edges r p (number, zone.now))
+        (set_of side.now.vertices.now)) }
 {
     let at = Vertex::Zone(p, number);
     let up = leaving(side, Vertex::Up(p), at, 1);
@@ -60,7 +62,8 @@ fn partition_weight(side: &Marked<'_>, r: u8, p: u8, zones: &[List<Role>]) -> u6
 fn front_weight(side: &Marked<'_>, r: u8, zones: &[List<Role>]) -> u64
     requires high { r ≤ 3 }
     requires few { length zones.now ≤ 256 }
-    ensures { result ≡ at_most (weight (flat_map (λ p. front_edges r p zones.now) (range_with_len 0 256)) (set_of side.now.vertices.now)) }
+    ensures { result ≡ at_most (weight (flat_map
+        (λ p. front_edges r p zones.now) (range_with_len 0 256)) (set_of side.now.vertices.now)) }
 {
     let mut total = 0u64;
     for p in 0..PARTITIONS {
@@ -72,7 +75,8 @@ fn front_weight(side: &Marked<'_>, r: u8, zones: &[List<Role>]) -> u64
 // What the edges on which copies end add.
 fn node_weight(side: &Marked<'_>, size: u64, roles: &[Role]) -> u64
     requires { 0 < size }
-    ensures { result ≡ at_most (weight (map (node_edge size) (storage_nodes roles.now)) (set_of side.now.vertices.now)) }
+    ensures { result ≡ at_most (weight (map (node_edge size) (storage_nodes roles.now))
+        (set_of side.now.vertices.now)) }
 {
     let mut total = 0u64;
     for role in roles {
@@ -86,7 +90,8 @@ fn node_weight(side: &Marked<'_>, size: u64, roles: &[Role]) -> u64
 
 // Whether the vertices are a cut.
 fn is_cut(side: &Marked<'_>) -> bool
-    ensures { result ≡ (set_of side.now.vertices.now Source && not (set_of side.now.vertices.now Sink)) }
+    ensures { result ≡ (set_of side.now.vertices.now Source && not
+        (set_of side.now.vertices.now Sink)) }
 {
     side.has(Vertex::Source) && !side.has(Vertex::Sink)
 }
@@ -103,7 +108,9 @@ pub fn weight(
     requires high { r ≤ 3 }
     requires some { 0 < size }
     ensures cut { IfOk result (λ found. IsSome found ↔ IsCut (set_of side.now)) }
-    ensures weight { IfOk result (λ found. IfSome found (λ w. w ≡ min (weight (network roles.now.list r size) (set_of side.now)) (2 ^ 64 - 1))) }
+    ensures weight { IfOk result
+        (λ found. IfSome found (λ w. w ≡ min (weight (network roles.now.list r size)
+        (set_of side.now)) (2 ^ 64 - 1))) }
     ensures want { OnlyWant result }
 {
     let zones = by_zone(alloc, roles.list.as_slice())?;

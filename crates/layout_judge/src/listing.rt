@@ -14,7 +14,8 @@ use std::alloc::Global;
 
 // Adds a vertex, where the side has it.
 fn keep(kept: &mut List<Vertex>, side: &Marked<'_>, vertex: Vertex) -> Result<(), Memory>
-    ensures ok { OnOk result (kept.new ≡ kept.old ++ filter (set_of side.now.vertices.now) (vertex ∷ [])) }
+    ensures ok { OnOk result (kept.new ≡ kept.old ++ filter (set_of side.now.vertices.now)
+        (vertex ∷ [])) }
     ensures want { OnlyWant result }
 {
     if side.has(vertex) {
@@ -31,7 +32,8 @@ fn keep_zones(
     zones: &[List<Role>],
 ) -> Result<(), Memory>
     requires few { length zones.now ≤ 256 }
-    ensures ok { OnOk result (kept.new ≡ kept.old ++ filter (set_of side.now.vertices.now) (zone_vertices zones.now p)) }
+    ensures ok { OnOk result (kept.new ≡ kept.old ++ filter (set_of side.now.vertices.now)
+        (zone_vertices zones.now p)) }
     ensures want { OnlyWant result }
 {
     for i in 0..zones.len() {
@@ -48,7 +50,8 @@ fn keep_partition(
     zones: &[List<Role>],
 ) -> Result<(), Memory>
     requires few { length zones.now ≤ 256 }
-    ensures ok { OnOk result (kept.new ≡ kept.old ++ filter (set_of side.now.vertices.now) (front_vertices zones.now p)) }
+    ensures ok { OnOk result (kept.new ≡ kept.old ++ filter (set_of side.now.vertices.now)
+        (front_vertices zones.now p)) }
     ensures want { OnlyWant result }
 {
     keep(kept, side, Vertex::Up(p))?;
@@ -63,7 +66,8 @@ fn keep_partitions(
     zones: &[List<Role>],
 ) -> Result<(), Memory>
     requires few { length zones.now ≤ 256 }
-    ensures ok { OnOk result (kept.new ≡ kept.old ++ filter (set_of side.now.vertices.now) (all_fronts zones.now)) }
+    ensures ok { OnOk result (kept.new ≡ kept.old ++ filter (set_of side.now.vertices.now)
+        (all_fronts zones.now)) }
     ensures want { OnlyWant result }
 {
     for p in 0..PARTITIONS {
@@ -74,7 +78,8 @@ fn keep_partitions(
 
 // Adds the storage nodes that the side has.
 fn keep_nodes(kept: &mut List<Vertex>, side: &Marked<'_>, roles: &[Role]) -> Result<(), Memory>
-    ensures ok { OnOk result (kept.new ≡ kept.old ++ filter (set_of side.now.vertices.now) (node_vertices roles.now)) }
+    ensures ok { OnOk result (kept.new ≡ kept.old ++ filter (set_of side.now.vertices.now)
+        (node_vertices roles.now)) }
     ensures want { OnlyWant result }
 {
     for role in roles {
@@ -88,7 +93,8 @@ fn keep_nodes(kept: &mut List<Vertex>, side: &Marked<'_>, roles: &[Role]) -> Res
 /// The vertices of a list that the network of these roles has, each once and in order: the source, then by partitions,
 /// then the nodes, as a printed cut names them.
 pub fn listed(alloc: Global, roles: &Roles, side: &[Vertex]) -> Result<List<Vertex>, Memory>
-    ensures listed { IfOk result (λ list. list ≡ filter (set_of side.now) (vertices roles.now.list)) }
+    ensures listed { IfOk result
+        (λ list. list ≡ filter (set_of side.now) (vertices roles.now.list)) }
     ensures want { OnlyWant result }
 {
     let zones = by_zone(alloc, roles.list.as_slice())?;

@@ -21,14 +21,16 @@ pub struct Table {
 
 // Marks one of 256.
 fn mark_one(row: &mut [bool; 256], place: u8)
-    ensures { (k : ℕ) → k < 256 → get_or row.new k false ≡ (get_or row.old k false || (k == place)) }
+    ensures { (k : ℕ) → k < 256 →
+        get_or row.new k false ≡ (get_or row.old k false || (k == place)) }
 {
     row[usize::from(place)] = true;
 }
 
 impl Table {
     fn mark(&mut self, vertex: Vertex)
-        ensures { (other : Vertex) → IsSmall other → is_marked self.new other ≡ (is_marked self.old other || same_vertex other vertex) }
+        ensures { (other : Vertex) → IsSmall other →
+            is_marked self.new other ≡ (is_marked self.old other || same_vertex other vertex) }
     {
         match vertex {
             Vertex::Source => self.source = true,

@@ -46,7 +46,9 @@ fn is_three(roles: &[Role], set: &[u8; 3]) -> bool
 
 // Whether a storage node of the set lies in the role's zone.
 fn has_zone(roles: &[Role], set: &[u8; 3], role: &Role) -> bool
-    ensures { result ≡ list_any (λ other. has_node other.node set.now && (is_storage other && is_in_zone (name_of role.now) other)) roles.now }
+    ensures { result ≡ list_any
+        (λ other. has_node other.node set.now &&
+        (is_storage other && is_in_zone (name_of role.now) other)) roles.now }
 {
     roles.iter().any(|other| {
         has(set, other.node) && other.is_storage() && other.zone.0 == role.zone.0

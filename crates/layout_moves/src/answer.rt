@@ -33,11 +33,17 @@ pub fn fewest(roles: &Roles, r: u8, size: u64, old: &Assignment) -> Result<Moved
     requires some { 0 < size }
     ensures fits { IfOk result (λ moved. Fits roles.now.list r size moved.sets.sets) }
     ensures moves { IfOk result (λ moved. moved.moves ≡ moves old.now.sets moved.sets.sets) }
-    ensures bound { IfOk result (λ moved. bound roles.now.list r size old.now.sets (potentials moved.potentials) ≡ pos moved.moves) }
-    ensures fewest { IfOk result (λ moved. (sets : List NodeSet) → Fits roles.now.list r size sets → moved.moves ≤ moves old.now.sets sets) }
-    ensures listed { IfOk result (λ moved. Source ∷ map (λ entry. entry.0) moved.potentials ≡ vertices roles.now.list) }
-    ensures none { IfErr result (λ fault. IfNoAssignment fault (λ _. NoneFits roles.now.list r size)) }
-    ensures none_cut { IfErr result (λ fault. IfNoAssignment fault (λ cut. IsPrintedCut roles.now.list r size cut)) }
+    ensures bound { IfOk result
+        (λ moved. bound roles.now.list r size old.now.sets (potentials moved.potentials) ≡
+        pos moved.moves) }
+    ensures fewest { IfOk result (λ moved. (sets : List NodeSet) → Fits roles.now.list r size sets →
+        moved.moves ≤ moves old.now.sets sets) }
+    ensures listed { IfOk result
+        (λ moved. Source ∷ map (λ entry. entry.0) moved.potentials ≡ vertices roles.now.list) }
+    ensures none { IfErr result
+        (λ fault. IfNoAssignment fault (λ _. NoneFits roles.now.list r size)) }
+    ensures none_cut { IfErr result
+        (λ fault. IfNoAssignment fault (λ cut. IsPrintedCut roles.now.list r size cut)) }
     ensures none_light { IfErr result (λ fault. IfNoAssignment fault (λ cut. cut.weight < 768)) }
     ensures refused { NoneFits roles.now.list r size → IsErr result }
 {
@@ -78,9 +84,13 @@ fn improved(
     requires fits { Fits roles.now.list r size start.sets }
     ensures fits { IfOk result (λ moved. Fits roles.now.list r size moved.sets.sets) }
     ensures moves { IfOk result (λ moved. moved.moves ≡ moves old.now.sets moved.sets.sets) }
-    ensures bound { IfOk result (λ moved. bound roles.now.list r size old.now.sets (potentials moved.potentials) ≡ pos moved.moves) }
-    ensures fewest { IfOk result (λ moved. (sets : List NodeSet) → Fits roles.now.list r size sets → moved.moves ≤ moves old.now.sets sets) }
-    ensures listed { IfOk result (λ moved. Source ∷ map (λ entry. entry.0) moved.potentials ≡ vertices roles.now.list) }
+    ensures bound { IfOk result
+        (λ moved. bound roles.now.list r size old.now.sets (potentials moved.potentials) ≡
+        pos moved.moves) }
+    ensures fewest { IfOk result (λ moved. (sets : List NodeSet) → Fits roles.now.list r size sets →
+        moved.moves ≤ moves old.now.sets sets) }
+    ensures listed { IfOk result
+        (λ moved. Source ∷ map (λ entry. entry.0) moved.potentials ≡ vertices roles.now.list) }
     ensures want { OnlyWant result }
 {
     potentials_bound();

@@ -16,7 +16,8 @@ pub const FEE: u32 = 66;
 // Whether a storage node keeps more partitions than it has room for.
 fn is_too_full(role: &Role, size: u64, sets: &[[u8; 3]]) -> bool
     requires { 0 < size }
-    ensures { result ≡ (is_storage role.now && nat_lt (room size role.now) (load sets.now role.now.node)) }
+    ensures { result ≡ (is_storage role.now && nat_lt (room size role.now)
+        (load sets.now role.now.node)) }
 {
     role.is_storage() && role.room(size) < load_of(sets, role.node) as u64
 }
@@ -25,7 +26,8 @@ fn is_too_full(role: &Role, size: u64, sets: &[[u8; 3]]) -> bool
 pub fn overloaded(roles: &Roles, size: u64, sets: &[[u8; 3]]) -> Option<u8>
     requires { 0 < size }
     ensures some { IfSome result (λ node. IsTrue (is_over roles.now.list size sets.now node)) }
-    ensures none { result ≡ None → All (λ role. load sets.now role.node ≤ room size role) (storage_nodes roles.now.list) }
+    ensures none { result ≡ None →
+        All (λ role. load sets.now role.node ≤ room size role) (storage_nodes roles.now.list) }
 {
     for role in roles.list.as_slice() {
         if is_too_full(role, size, sets) {
@@ -100,7 +102,8 @@ pub fn hold_auction(
     requires whole { length old.now ≡ 256 }
     requires priced { IsPriced roles.now.list r size old.now sets.old prices.old }
     ensures priced { IsPriced roles.now.list r size old.now sets.new prices.new }
-    ensures within { All (λ role. load sets.new role.node ≤ room size role) (storage_nodes roles.now.list) }
+    ensures within { All (λ role. load sets.new role.node ≤ room size role)
+        (storage_nodes roles.now.list) }
 {
     loop {
         match overloaded(roles, size, sets.as_slice()) {

@@ -44,8 +44,10 @@ fn with_partition(
 ) -> Option<Bid>
     requires whole { length old.now ≡ length sets.now }
     requires inside { p < length sets.now }
-    requires cheap { IsCheap 1 each groups.now (asked fee (set_at old.now p) prices.now) (set_at sets.now p) }
-    ensures { IsLeastBid fee groups.now each old.now sets.now prices.now out p best → IsLeastBid fee groups.now each old.now sets.now prices.now out (p + 1) result }
+    requires cheap { IsCheap 1 each groups.now (asked fee (set_at old.now p) prices.now)
+        (set_at sets.now p) }
+    ensures { IsLeastBid fee groups.now each old.now sets.now prices.now out p best →
+        IsLeastBid fee groups.now each old.now sets.now prices.now out (p + 1) result }
 {
     if !has(&sets[p], out) {
         return best;
@@ -75,8 +77,10 @@ pub fn best_bid(
     out: u8,
 ) -> Option<Bid>
     requires whole { length old.now ≡ length sets.now }
-    requires cheap { (p : ℕ) → p < length sets.now → IsCheap 1 each groups.now (asked fee (set_at old.now p) prices.now) (set_at sets.now p) }
-    ensures { IsLeastBid fee groups.now each old.now sets.now prices.now out (length sets.now) result }
+    requires cheap { (p : ℕ) → p < length sets.now →
+        IsCheap 1 each groups.now (asked fee (set_at old.now p) prices.now) (set_at sets.now p) }
+    ensures { IsLeastBid fee groups.now each old.now sets.now prices.now out
+        (length sets.now) result }
 {
     let mut best = None;
     for p in 0..sets.len() {

@@ -30,7 +30,8 @@ fn takes_in(zone: &[Role], each: u8, set: &[u8; 3], out: u8, new: u8) -> bool
 
 // Whether a node lies in a zone into which a copy that leaves another may go.
 fn takes_any(groups: &[List<Role>], each: u8, set: &[u8; 3], out: u8, new: u8) -> bool
-    ensures { result ≡ list_any (λ zone. is_open each set.now out zone && lies zone new) groups.now }
+    ensures { result ≡ list_any
+        (λ zone. is_open each set.now out zone && lies zone new) groups.now }
 {
     groups
         .iter()
@@ -183,7 +184,8 @@ fn are_cheap(
     prices: &[u32],
 ) -> bool
     requires { length old.now ≡ length sets.now }
-    ensures { IsTrue result → (p : ℕ) → p < length sets.now → IsCheap 1 each groups.now (asked 66 (set_at old.now p) prices.now) (set_at sets.now p) }
+    ensures { IsTrue result → (p : ℕ) → p < length sets.now →
+        IsCheap 1 each groups.now (asked 66 (set_at old.now p) prices.now) (set_at sets.now p) }
 {
     for p in 0..sets.len() {
         if gain(groups, each, &sets[p], FEE, &old[p], prices).is_some() {

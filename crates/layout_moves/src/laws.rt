@@ -8,5 +8,7 @@ ghost use Rattle.layout_moves.specs.Moves.{Potentials, bound, moves};
 
 /// Potentials show how many copies every assignment that fits has to move: no bound is above the moves of one.
 pub fn potentials_bound()
-    ensures { (roles : List Role) (r size : ℕ) (old sets : List NodeSet) (potential : Potentials) → IsTrue (nodes_ascend roles) → 1 ≤ r → r ≤ 3 → potential Source ≡ pos 0 → Fits roles r size sets → bound roles r size old potential ≤ℤ pos (moves old sets) }
+    ensures { (roles : List Role) (r size : ℕ) (old sets : List NodeSet) (potential : Potentials) →
+        IsTrue (nodes_ascend roles) → 1 ≤ r → r ≤ 3 → potential Source ≡ pos 0 →
+        Fits roles r size sets → bound roles r size old potential ≤ℤ pos (moves old sets) }
 {}

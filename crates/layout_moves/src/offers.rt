@@ -41,7 +41,9 @@ pub fn asked_by(fee: u32, old: &[u8; 3], prices: &[u32], node: u8) -> u64
 
 // The cheaper of the best offer so far and another.
 fn cheaper(best: Option<Offer>, offer: Offer) -> Option<Offer>
-    ensures { (test : ℕ → Bool) (asks : ℕ → ℕ) → IsCheapest test asks best → offer.price ≡ asks offer.node → IsCheapest (λ node. test node || nat_eq node offer.node) asks result }
+    ensures { (test : ℕ → Bool) (asks : ℕ → ℕ) → IsCheapest test asks best →
+        offer.price ≡ asks offer.node →
+        IsCheapest (λ node. test node || nat_eq node offer.node) asks result }
 {
     let Some(before) = best else {
         return Some(offer)
@@ -61,7 +63,9 @@ fn with_role(
     prices: &[u32],
     best: Option<Offer>,
 ) -> Option<Offer>
-    ensures { (test : ℕ → Bool) → IsCheapest test (asked fee old.now prices.now) best → IsCheapest (λ node. test node || ((role.now.node == node) && not (has_node node set.now))) (asked fee old.now prices.now) result }
+    ensures { (test : ℕ → Bool) → IsCheapest test (asked fee old.now prices.now) best →
+        IsCheapest (λ node. test node || ((role.now.node == node) && not (has_node node set.now)))
+        (asked fee old.now prices.now) result }
 {
     if has(set, role.node) {
         return best;
@@ -87,7 +91,10 @@ fn with_zone(
     prices: &[u32],
     start: Option<Offer>,
 ) -> Option<Offer>
-    ensures { (test : ℕ → Bool) → IsCheapest test (asked fee old.now prices.now) start → IsCheapest (λ node. test node || ((is_open each set.now out zone.now && lies zone.now node) && not (has_node node set.now))) (asked fee old.now prices.now) result }
+    ensures { (test : ℕ → Bool) → IsCheapest test (asked fee old.now prices.now) start →
+        IsCheapest (λ node. test node ||
+        ((is_open each set.now out zone.now && lies zone.now node) && not (has_node node set.now)))
+        (asked fee old.now prices.now) result }
 {
     if !opens(each, set, out, zone) {
         return start;
@@ -109,7 +116,8 @@ pub fn best_offer(
     old: &[u8; 3],
     prices: &[u32],
 ) -> Option<Offer>
-    ensures { IsCheapest (may_take each set.now out groups.now) (asked fee old.now prices.now) result }
+    ensures { IsCheapest (may_take each set.now out groups.now)
+        (asked fee old.now prices.now) result }
 {
     let mut best = None;
     for zone in groups {

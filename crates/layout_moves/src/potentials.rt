@@ -28,7 +28,8 @@ fn dearest_of(set: &[u8; 3], old: &[u8; 3], prices: &[u32]) -> u64
 
 // What the dearest node of a set asks that lies in a zone.
 fn dearest_in(zone: &[Role], set: &[u8; 3], old: &[u8; 3], prices: &[u32]) -> u64
-    ensures dearest { result ≡ dearest (asked 1 old.now prices.now) (filter (lies zone.now) set.now) }
+    ensures dearest { result ≡ dearest (asked 1 old.now prices.now)
+        (filter (lies zone.now) set.now) }
     ensures small { result < 2 ^ 33 }
 {
     let mut most = 0;
@@ -55,7 +56,8 @@ fn level_of(zone: &[Role], each: u8, set: &[u8; 3], old: &[u8; 3], prices: &[u32
 /// What the dearest node of all sets asks.
 pub fn top_of(sets: &[[u8; 3]], old: &[[u8; 3]], prices: &[u32]) -> u64
     requires { length old.now ≡ length sets.now }
-    ensures topped { (p : ℕ) → p < length sets.now → dearest (asked 1 (set_at old.now p) prices.now) (set_at sets.now p) ≤ result }
+    ensures topped { (p : ℕ) → p < length sets.now →
+        dearest (asked 1 (set_at old.now p) prices.now) (set_at sets.now p) ≤ result }
     ensures small { result < 2 ^ 33 }
 {
     let mut top = 0;
@@ -91,7 +93,8 @@ fn add_partition(
     requires sets { length sets.now ≡ 256 }
     requires old { length old.now ≡ 256 }
     requires top { top < 2 ^ 33 }
-    ensures ok { OnOk result (list.new ≡ list.old ++ partition_listing (potential roles.now.list each old.now sets.now prices.now top) roles.now.list p) }
+    ensures ok { OnOk result (list.new ≡ list.old ++ partition_listing
+        (potential roles.now.list each old.now sets.now prices.now top) roles.now.list p) }
     ensures want { OnlyWant result }
 {
     let set = &sets[usize::from(p)];
@@ -117,7 +120,8 @@ fn add_nodes(
     top: u64,
 ) -> Result<(), Memory>
     requires top { top < 2 ^ 33 }
-    ensures ok { OnOk result (list.new ≡ list.old ++ node_listing (potential roles.now.list each old.now sets.now prices.now top) roles.now.list) }
+    ensures ok { OnOk result (list.new ≡ list.old ++ node_listing
+        (potential roles.now.list each old.now sets.now prices.now top) roles.now.list) }
     ensures want { OnlyWant result }
 {
     for role in roles.list.as_slice() {
@@ -145,7 +149,9 @@ pub fn potentials_of(
     requires sets { length sets.now ≡ 256 }
     requires old { length old.now ≡ 256 }
     requires top { top < 2 ^ 33 }
-    ensures listed { IfOk result (λ list. list ≡ listing 256 (potential roles.now.list each old.now sets.now prices.now top) roles.now.list) }
+    ensures listed { IfOk result
+        (λ list. list ≡ listing 256
+        (potential roles.now.list each old.now sets.now prices.now top) roles.now.list) }
     ensures want { OnlyWant result }
 {
     let mut list = List::new(alloc);

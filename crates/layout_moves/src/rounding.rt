@@ -33,7 +33,8 @@ pub fn shift_of(prices: &[u32]) -> u32
 /// The prices in whole moves, rounded down with a shift.
 pub fn whole_prices(alloc: Global, prices: &[u32], shift: u32) -> Result<List<u32>, Memory>
     requires { shift < 66 }
-    ensures rounded { IfOk result (λ rounded. rounded ≡ map (λ price. (price + shift) / 66) prices.now) }
+    ensures rounded { IfOk result
+        (λ rounded. rounded ≡ map (λ price. (price + shift) / 66) prices.now) }
     ensures want { OnlyWant result }
 {
     let mut rounded = List::new(alloc);

@@ -58,7 +58,8 @@ pub fn opens(each: u8, set: &[u8; 3], out: u8, zone: &[Role]) -> bool
 pub fn swapped(set: [u8; 3], out: u8, new: u8) -> [u8; 3]
     requires { IsTrue (has_node out set) }
     ensures swap { IsSwap set out new result }
-    ensures ascends { IsDistinct nat_eq set → has_node new set ≡ false → IsTrue (set_ascends result) }
+    ensures ascends { IsDistinct nat_eq set → has_node new set ≡ false →
+        IsTrue (set_ascends result) }
 {
     if set[0] == out {
         return in_order(new, set[1], set[2]);

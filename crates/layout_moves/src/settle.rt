@@ -27,8 +27,10 @@ fn gain_at(
     old: &[u8; 3],
     prices: &[u32],
 ) -> Option<u8>
-    ensures some { IfSome result (λ node. IsTrue (may_take each set.now out groups.now node) × (asked fee old.now prices.now node + 1 < asked fee old.now prices.now out)) }
-    ensures none { result ≡ None → (node : ℕ) → IsTrue (may_take each set.now out groups.now node) → asked fee old.now prices.now out ≤ asked fee old.now prices.now node + 1 }
+    ensures some { IfSome result (λ node. IsTrue (may_take each set.now out groups.now node) ×
+        (asked fee old.now prices.now node + 1 < asked fee old.now prices.now out)) }
+    ensures none { result ≡ None → (node : ℕ) → IsTrue (may_take each set.now out groups.now node) →
+        asked fee old.now prices.now out ≤ asked fee old.now prices.now node + 1 }
 {
     let Some(offer) = best_offer(groups, each, set, out, fee, old, prices) else {
         return None
@@ -48,8 +50,11 @@ pub fn gain(
     old: &[u8; 3],
     prices: &[u32],
 ) -> Option<Swap>
-    ensures some { IfSome result (λ gain. IsTrue (has_node gain.out set.now) × IsTrue (may_take each set.now gain.out groups.now gain.new) × (asked fee old.now prices.now gain.new + 1 < asked fee old.now prices.now gain.out)) }
-    ensures none { result ≡ None → IsCheap 1 each groups.now (asked fee old.now prices.now) set.now }
+    ensures some { IfSome result (λ gain. IsTrue (has_node gain.out set.now) ×
+        IsTrue (may_take each set.now gain.out groups.now gain.new) ×
+        (asked fee old.now prices.now gain.new + 1 < asked fee old.now prices.now gain.out)) }
+    ensures none { result ≡ None →
+        IsCheap 1 each groups.now (asked fee old.now prices.now) set.now }
 {
     for out in set {
         if let Some(new) = gain_at(groups, each, set, *out, fee, old, prices) {
@@ -102,7 +107,8 @@ pub fn settle_all(
     ensures whole { length sets.new ≡ length sets.old }
     ensures bases { All (IsBase roles.now.list each) sets.new }
     ensures ascending { IsTrue (list_all set_ascends sets.new) }
-    ensures cheap { (p : ℕ) → p < length sets.new → IsCheap 1 each groups.now (asked fee (set_at old.now p) prices.now) (set_at sets.new p) }
+    ensures cheap { (p : ℕ) → p < length sets.new →
+        IsCheap 1 each groups.now (asked fee (set_at old.now p) prices.now) (set_at sets.new p) }
 {
     for p in 0..old.len() {
         let set = settled(roles, groups, each, *sets.at(p), fee, &old[p], prices);

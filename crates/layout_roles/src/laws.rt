@@ -5,5 +5,6 @@ ghost use Rattle.layout_roles.specs.Fits.{NodeSet, Fits};
 
 /// An assignment that fits a partition size fits each smaller one.
 pub fn smaller_sizes()
-    ensures { (roles : List Role) (r small great : ℕ) (sets : List NodeSet) → 0 < small → small ≤ great → Fits roles r great sets → Fits roles r small sets }
+    ensures { (roles : List Role) (r small great : ℕ) (sets : List NodeSet) → 0 < small →
+        small ≤ great → Fits roles r great sets → Fits roles r small sets }
 {}

@@ -30,7 +30,8 @@ fn are_name_bytes(bytes: &[u8]) -> bool
 
 fn has_name_ends(name: &[u8]) -> bool
     requires { 0 < length name.now }
-    ensures { result ≡ (is_name_byte (slice_index name.now 0) && is_name_byte (slice_index name.now (length name.now - 1))) }
+    ensures { result ≡ (is_name_byte (slice_index name.now 0) && is_name_byte
+        (slice_index name.now (length name.now - 1))) }
 {
     is_name_byte(name[0]) && is_name_byte(name[name.len() - 1])
 }

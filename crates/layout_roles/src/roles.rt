@@ -18,7 +18,8 @@ pub struct Roles {
 impl Roles {
     /// The roles of a list, where they are in order of nodes, each once, and the nodes are 1 to 64.
     pub fn from_list(list: List<Role>) -> Option<Roles>
-        ensures some { IsSome result ↔ (IsTrue (nodes_ascend list) × IsTrue (list_all is_numbered list)) }
+        ensures some { IsSome result ↔
+            (IsTrue (nodes_ascend list) × IsTrue (list_all is_numbered list)) }
         ensures same { IfSome result (λ roles. roles.list ≡ list) }
     {
         if are_in_order(list.as_slice()) {
@@ -83,7 +84,9 @@ fn are_in_order(roles: &[Role]) -> bool
 // Whether this is a storage node, and none before the place is one in its zone.
 fn opens_zone(roles: &[Role], place: usize, role: &Role) -> bool
     requires { place < length roles.now }
-    ensures { result ≡ (is_storage role.now && not (list_any (λ other. is_storage other && is_in_zone (name_of role.now) other) (take place roles.now))) }
+    ensures { result ≡ (is_storage role.now && not (list_any
+        (λ other. is_storage other && is_in_zone (name_of role.now) other)
+        (take place roles.now))) }
 {
     role.is_storage() && !has_zone(&roles[..place], &role.zone)
 }

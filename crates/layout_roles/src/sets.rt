@@ -6,7 +6,8 @@ ghost use Rattle.layout_roles.specs.Sets.{in_order};
 /// Three nodes in order of numbers.
 pub fn in_order(first: u8, second: u8, third: u8) -> [u8; 3]
     ensures nodes { result ≡ in_order first second third }
-    ensures ascends { first ≢ second → first ≢ third → second ≢ third → IsTrue (set_ascends result) }
+    ensures ascends { first ≢ second → first ≢ third → second ≢ third →
+        IsTrue (set_ascends result) }
 {
     let (low, high) = if second < first {
         (second, first)

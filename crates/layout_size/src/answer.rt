@@ -22,10 +22,16 @@ const COPIES: usize = 3;
 pub fn compute(alloc: Global, roles: &Roles, wanted: Redundancy) -> Result<Certified, LayoutFault>
     requires { IsRedundancy wanted }
     ensures certified { IfOk result (IsCertified roles.now.list wanted) }
-    ensures nodes { (n : ℕ) → (result ≡ Err (LayoutFault.TooFewNodes n)) ↔ ((length (storage_nodes roles.now.list) ≡ n) × (n < 3)) }
-    ensures zones { (z r : ℕ) → (result ≡ Err (LayoutFault.TooFewZones z r)) ↔ ((3 ≤ length (storage_nodes roles.now.list)) × (length (zone_names roles.now.list) ≡ z) × (zones_wanted wanted roles.now.list ≡ r) × (z < r)) }
-    ensures none { IfErr result (λ fault. IfNoAssignment fault (ShowsNone roles.now.list (zones_wanted wanted roles.now.list))) }
-    ensures refused { NoneFits roles.now.list (zones_wanted wanted roles.now.list) 1 → IsErr result }
+    ensures nodes { (n : ℕ) → (result ≡ Err (LayoutFault.TooFewNodes n)) ↔
+        ((length (storage_nodes roles.now.list) ≡ n) × (n < 3)) }
+    ensures zones { (z r : ℕ) → (result ≡ Err (LayoutFault.TooFewZones z r)) ↔
+        ((3 ≤ length (storage_nodes roles.now.list)) × (length (zone_names roles.now.list) ≡ z) ×
+        (zones_wanted wanted roles.now.list ≡ r) × (z < r)) }
+    ensures none { IfErr result
+        (λ fault. IfNoAssignment fault
+        (ShowsNone roles.now.list (zones_wanted wanted roles.now.list))) }
+    ensures refused { NoneFits roles.now.list (zones_wanted wanted roles.now.list) 1 →
+        IsErr result }
 {
     let nodes = roles.storage_count();
     if nodes < COPIES {
@@ -42,7 +48,8 @@ pub fn compute(alloc: Global, roles: &Roles, wanted: Redundancy) -> Result<Certi
 // In how many zones the nodes of a set have to lie, where so many zones have storage nodes.
 fn zones_of(wanted: Redundancy, zones: usize) -> u8
     requires { IsRedundancy wanted }
-    ensures wanted { (roles : List Role) → length (zone_names roles) ≡ zones → result ≡ zones_wanted wanted roles }
+    ensures wanted { (roles : List Role) → length (zone_names roles) ≡ zones →
+        result ≡ zones_wanted wanted roles }
     ensures high { result ≤ 3 }
 {
     match wanted {
@@ -55,10 +62,14 @@ fn zones_of(wanted: Redundancy, zones: usize) -> u8
 fn certify(mut network: Network) -> Result<Certified, LayoutFault>
     requires { network.size ≡ 1 }
     ensures redundancy { IfOk result (λ certified. certified.r ≡ network.r) }
-    ensures greatest { IfOk result (λ certified. IsGreatest network.roles.list network.r certified.size certified.sets.sets) }
-    ensures above { IfOk result (λ certified. (size : ℕ) → certified.size < size → NoneFits network.roles.list certified.r size) }
+    ensures greatest { IfOk result
+        (λ certified. IsGreatest network.roles.list network.r certified.size certified.sets.sets) }
+    ensures above { IfOk result (λ certified. (size : ℕ) → certified.size < size →
+        NoneFits network.roles.list certified.r size) }
     ensures some { IfOk result (λ certified. 0 < certified.size) }
-    ensures cut { IfOk result (λ certified. IsPrintedCut network.roles.list network.r (certified.size + 1) certified.cut) }
+    ensures cut { IfOk result
+        (λ certified. IsPrintedCut network.roles.list network.r
+        (certified.size + 1) certified.cut) }
     ensures light { IfOk result (λ certified. certified.cut.weight < 768) }
     ensures fits { IfOk result (λ _. SomeFits network.roles.list network.r 1) }
     ensures fault { IfErr result (IsLateFault network.roles.list network.r) }
@@ -82,7 +93,8 @@ fn certify(mut network: Network) -> Result<Certified, LayoutFault>
 // The assignment of a network for a size that some assignment fits.
 fn assignment_of(network: &Network) -> Result<Assignment, Memory>
     requires { SomeFits network.now.roles.list network.now.r network.now.size }
-    ensures fits { IfOk result (λ assignment. Fits network.now.roles.list network.now.r network.now.size assignment.sets) }
+    ensures fits { IfOk result
+        (λ assignment. Fits network.now.roles.list network.now.r network.now.size assignment.sets) }
     ensures want { OnlyWant result }
 {
     match network.max_flow()? {
@@ -94,7 +106,8 @@ fn assignment_of(network: &Network) -> Result<Assignment, Memory>
 // The printed cut of a network for a size that no assignment fits.
 fn cut_of(network: &Network) -> Result<Cut, Memory>
     requires { NoneFits network.now.roles.list network.now.r network.now.size }
-    ensures printed { IfOk result (λ cut. IsPrintedCut network.now.roles.list network.now.r network.now.size cut) }
+    ensures printed { IfOk result
+        (λ cut. IsPrintedCut network.now.roles.list network.now.r network.now.size cut) }
     ensures light { IfOk result (λ cut. cut.weight < 768) }
     ensures want { OnlyWant result }
 {

@@ -38,7 +38,8 @@ fn fits(network: &mut Network, size: u64) -> bool
     ensures roles { network.new.roles ≡ network.old.roles }
     ensures redundancy { network.new.r ≡ network.old.r }
     ensures some { IsTrue result → SomeFits network.old.roles.list network.old.r size }
-    ensures none { result ≡ false → (greater : ℕ) → size ≤ greater → NoneFits network.old.roles.list network.old.r greater }
+    ensures none { result ≡ false → (greater : ℕ) → size ≤ greater →
+        NoneFits network.old.roles.list network.old.r greater }
 {
     smaller_sizes();
     network.resize(size);
@@ -51,7 +52,8 @@ pub fn greatest_size(network: &mut Network) -> u64
     ensures roles { network.new.roles ≡ network.old.roles }
     ensures redundancy { network.new.r ≡ network.old.r }
     ensures some { SomeFits network.old.roles.list network.old.r result }
-    ensures above { (size : ℕ) → result < size → NoneFits network.old.roles.list network.old.r size }
+    ensures above { (size : ℕ) → result < size →
+        NoneFits network.old.roles.list network.old.r size }
     ensures low { 0 < result }
     ensures small { result * 12 < 2 ^ 64 }
 {

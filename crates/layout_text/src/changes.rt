@@ -33,8 +33,11 @@ fn after(before: u32, table: &Table) -> Option<u32>
 #[tactic(auto, unfolding(crate::specs::Changes::change_in))]
 // The change of a table, where the one before it comes after so many requests.
 fn change_of(alloc: Global, greatest: u8, before: u32, table: &Table) -> Result<Change, ConfigFault>
-    ensures change { IfOk result (λ change. faulted (change_in greatest before (table_view table.now)) ≡ Ok (coming_of change)) }
-    ensures fault { IfErr result (IsFaultOf (faulted (change_in greatest before (table_view table.now)))) }
+    ensures change { IfOk result
+        (λ change. faulted (change_in greatest before (table_view table.now)) ≡ Ok
+        (coming_of change)) }
+    ensures fault { IfErr result
+        (IsFaultOf (faulted (change_in greatest before (table_view table.now)))) }
 {
     let after = after(before, table).ok_or(FieldName::After)?;
     let redundancy = values::redundancy(table).ok_or(FieldName::Redundancy)?;
@@ -52,8 +55,12 @@ fn changes_in_tables(
     greatest: u8,
     values: &[Value],
 ) -> Result<List<Change>, ConfigFault>
-    ensures changes { IfOk result (λ changes. (tables : List Members) → tables_of (items_view values.now) ≡ Some tables → faulted (changes_of greatest 0 [] tables) ≡ Ok (comings_of changes)) }
-    ensures fault { IfErr result (λ fault. (tables : List Members) → tables_of (items_view values.now) ≡ Some tables → IsFaultOf (faulted (changes_of greatest 0 [] tables)) fault) }
+    ensures changes { IfOk result (λ changes. (tables : List Members) →
+        tables_of (items_view values.now) ≡ Some tables →
+        faulted (changes_of greatest 0 [] tables) ≡ Ok (comings_of changes)) }
+    ensures fault { IfErr result (λ fault. (tables : List Members) →
+        tables_of (items_view values.now) ≡ Some tables →
+        IsFaultOf (faulted (changes_of greatest 0 [] tables)) fault) }
 {
     let mut changes: List<Change> = List::new(alloc);
     let mut before = 0;
@@ -70,7 +77,8 @@ fn changes_in_tables(
 // The values of the changes, where each is a table and they aren't too many.
 fn change_values(value: &Value) -> Option<&Array>
     ensures some { is_some result ≡ is_some (tables_in (view value.now)) }
-    ensures same { IfSome result (λ values. tables_in (view value.now) ≡ tables_of (array_view values.now)) }
+    ensures same { IfSome result
+        (λ values. tables_in (view value.now) ≡ tables_of (array_view values.now)) }
 {
     let values = value.as_array()?;
     if values.len() <= CHANGE_LIMIT && are_tables(values.as_slice()) {
@@ -83,7 +91,8 @@ fn change_values(value: &Value) -> Option<&Array>
 #[tactic(auto, unfolding(crate::specs::Changes::changes_at))]
 // The changes of a value.
 fn changes_at(alloc: Global, greatest: u8, value: &Value) -> Result<List<Change>, ConfigFault>
-    ensures changes { IfOk result (λ changes. faulted (changes_at greatest (view value.now)) ≡ Ok (comings_of changes)) }
+    ensures changes { IfOk result
+        (λ changes. faulted (changes_at greatest (view value.now)) ≡ Ok (comings_of changes)) }
     ensures fault { IfErr result (IsFaultOf (faulted (changes_at greatest (view value.now)))) }
 {
     let values = change_values(value).ok_or(FieldName::Change)?;
@@ -92,7 +101,8 @@ fn changes_at(alloc: Global, greatest: u8, value: &Value) -> Result<List<Change>
 
 // The changes of a document's table.
 fn changes(alloc: Global, greatest: u8, root: &Table) -> Result<List<Change>, ConfigFault>
-    ensures changes { IfOk result (λ changes. faulted (changes_in greatest (table_view root.now)) ≡ Ok (comings_of changes)) }
+    ensures changes { IfOk result
+        (λ changes. faulted (changes_in greatest (table_view root.now)) ≡ Ok (comings_of changes)) }
     ensures fault { IfErr result (IsFaultOf (faulted (changes_in greatest (table_view root.now)))) }
 {
     match values::value_at(root, "change") {
@@ -109,7 +119,8 @@ pub fn read_changes(
     text: &str,
     greatest_node: u8,
 ) -> Result<List<Change>, ConfigFault>
-    ensures changes { IfOk result (λ changes. changes_said greatest_node text.now ≡ Ok (comings_of changes)) }
+    ensures changes { IfOk result
+        (λ changes. changes_said greatest_node text.now ≡ Ok (comings_of changes)) }
     ensures fault { IfErr result (IsFaultOf (changes_said greatest_node text.now)) }
 {
     match toml::table_from_str(alloc, text) {

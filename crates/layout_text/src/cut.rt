@@ -66,7 +66,8 @@ fn side_words(
 
 // The words of each partition's vertices.
 fn all_words(alloc: Global, names: &[Bytes], side: &[Vertex]) -> Result<List<Bytes>, Memory>
-    ensures words { IfOk result (λ all. all ≡ map (side_words names.now side.now) (range_with_len 0 256)) }
+    ensures words { IfOk result
+        (λ all. all ≡ map (side_words names.now side.now) (range_with_len 0 256)) }
     ensures want { OnlyWant result }
 {
     let mut all = List::new(alloc);
@@ -91,7 +92,8 @@ fn append_side(out: &mut Bytes, first: usize, last: usize, words: &[u8]) -> Resu
 }
 
 fn append_runs(out: &mut Bytes, words: &[Bytes]) -> Result<(), Memory>
-    ensures ok { OnOk result (out.new ≡ out.old ++ run_lines side_line 0 (runs (pointwise nat_eq) words.now)) }
+    ensures ok { OnOk result (out.new ≡ out.old ++ run_lines side_line 0
+        (runs (pointwise nat_eq) words.now)) }
     ensures want { OnlyWant result }
 {
     let mut first = 0;

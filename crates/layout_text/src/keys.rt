@@ -142,7 +142,8 @@ fn configured<'a>(buckets: &Names, value: &'a Value) -> Option<&'a str>
 }
 
 fn names_of(alloc: Global, buckets: &Names, values: &[Value]) -> Result<Option<List<Bytes>>, Memory>
-    ensures names { IfOk result (λ names. names ≡ listed_of buckets.now [] (items_view values.now)) }
+    ensures names { IfOk result
+        (λ names. names ≡ listed_of buckets.now [] (items_view values.now)) }
     ensures want { OnlyWant result }
 {
     let mut names: List<Bytes> = List::new(alloc);
@@ -161,7 +162,8 @@ fn names_at(
     table: &Table,
     key: &str,
 ) -> Result<Option<List<Bytes>>, Memory>
-    ensures names { IfOk result (λ names. names ≡ listed_in buckets.now key.now (table_view table.now)) }
+    ensures names { IfOk result
+        (λ names. names ≡ listed_in buckets.now key.now (table_view table.now)) }
     ensures want { OnlyWant result }
 {
     match values::array_at(table, key) {
@@ -177,7 +179,8 @@ fn listed(
     table: &Table,
     key: &str,
 ) -> Result<List<Bytes>, ConfigFault>
-    ensures { Reads (faulted (needed field.Key (listed_in buckets.now key.now (table_view table.now)))) result }
+    ensures { Reads (faulted (needed field.Key
+        (listed_in buckets.now key.now (table_view table.now)))) result }
 {
     match names_at(alloc, buckets, table, key)? {
         Some(names) => Ok(names),
@@ -220,7 +223,8 @@ fn keys_of(alloc: Global, buckets: &Names, values: &[Value]) -> Result<List<Key>
 }
 
 fn keys_at(alloc: Global, buckets: &Names, root: &Table) -> Result<List<Key>, ConfigFault>
-    ensures { Reads (faulted (keys_at buckets.now (get_member (codes "key") (table_view root.now)))) result }
+    ensures { Reads (faulted (keys_at buckets.now
+        (get_member (codes "key") (table_view root.now)))) result }
 {
     match values::value_at(root, "key") {
         Some(value) => {

@@ -122,7 +122,8 @@ fn add_run(sets: &mut List<[u8; 3]>, run: OldRun) -> Result<(), Memory>
 // The sets of the tables, where they cover all partitions in order without gap.
 fn sets(alloc: Global, values: &[Value]) -> Result<Option<List<[u8; 3]>>, Memory>
     ensures sets { IfOk result (λ sets. sets ≡ sets_of [] (items_view values.now)) }
-    ensures ascending { IfOk result (λ sets. IfSome sets (λ sets. IsTrue (list_all set_ascends sets))) }
+    ensures ascending { IfOk result
+        (λ sets. IfSome sets (λ sets. IsTrue (list_all set_ascends sets))) }
     ensures whole { IfOk result (λ sets. IfSome sets (λ sets. length sets ≡ 256)) }
     ensures want { OnlyWant result }
 {
@@ -142,8 +143,10 @@ fn sets(alloc: Global, values: &[Value]) -> Result<Option<List<[u8; 3]>>, Memory
 
 // The old sets of a document.
 fn old(alloc: Global, root: &Table) -> Result<Assignment, ConfigFault>
-    ensures sets { IfOk result (λ old. faulted (needed field.Old (old_in (table_view root.now))) ≡ Ok old.sets) }
-    ensures fault { IfErr result (IsFaultOf (faulted (needed field.Old (old_in (table_view root.now))))) }
+    ensures sets { IfOk result
+        (λ old. faulted (needed field.Old (old_in (table_view root.now))) ≡ Ok old.sets) }
+    ensures fault { IfErr result
+        (IsFaultOf (faulted (needed field.Old (old_in (table_view root.now))))) }
 {
     let values = values::array_at(root, "old").ok_or(FieldName::Old)?;
     let sets = sets(alloc, values.as_slice())?.ok_or(FieldName::Old)?;

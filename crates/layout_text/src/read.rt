@@ -48,7 +48,8 @@ fn named_buckets(alloc: Global, root: &Table) -> Result<Option<Names>, Memory>
 
 // The names of the buckets for `serve`, and none for `layout`.
 fn buckets(alloc: Global, greatest: u8, root: &Table) -> Result<Names, ConfigFault>
-    ensures { Reads (faulted (needed field.Buckets (buckets_for greatest (table_view root.now)))) result }
+    ensures { Reads (faulted (needed field.Buckets
+        (buckets_for greatest (table_view root.now)))) result }
 {
     if greatest != SERVE {
         return Ok(Names::new(alloc));
@@ -110,7 +111,8 @@ fn put(roles: &mut List<Role>, role: Role) -> Result<(), Memory>
 // The values of the nodes, where each is a table.
 fn node_values(root: &Table) -> Option<&Array>
     ensures some { is_some result ≡ is_some (nodes_in (table_view root.now)) }
-    ensures same { IfSome result (λ values. nodes_in (table_view root.now) ≡ tables_of (array_view values.now)) }
+    ensures same { IfSome result
+        (λ values. nodes_in (table_view root.now) ≡ tables_of (array_view values.now)) }
 {
     let values = values::array_at(root, "node")?;
     if are_tables(values.as_slice()) {
@@ -128,8 +130,12 @@ pub(crate) fn are_tables(values: &[Value]) -> bool
 
 // The roles of nodes whose values are tables, in order of nodes.
 fn roles_of(alloc: Global, greatest: u8, nodes: &[Value]) -> Result<Roles, ConfigFault>
-    ensures roles { IfOk result (λ roles. (tables : List Members) → tables_of (items_view nodes.now) ≡ Some tables → faulted (roles_in greatest [] tables) ≡ Ok roles.list) }
-    ensures fault { IfErr result (λ fault. (tables : List Members) → tables_of (items_view nodes.now) ≡ Some tables → IsFaultOf (faulted (roles_in greatest [] tables)) fault) }
+    ensures roles { IfOk result (λ roles. (tables : List Members) →
+        tables_of (items_view nodes.now) ≡ Some tables →
+        faulted (roles_in greatest [] tables) ≡ Ok roles.list) }
+    ensures fault { IfErr result (λ fault. (tables : List Members) →
+        tables_of (items_view nodes.now) ≡ Some tables →
+        IsFaultOf (faulted (roles_in greatest [] tables)) fault) }
 {
     let mut list: List<Role> = List::new(alloc);
     for value in nodes {
@@ -143,7 +149,8 @@ fn roles_of(alloc: Global, greatest: u8, nodes: &[Value]) -> Result<Roles, Confi
 #[tactic(auto, unfolding(crate::specs::Settings::roles_for))]
 // The roles of the nodes, in order of nodes.
 pub(crate) fn roles(alloc: Global, greatest: u8, root: &Table) -> Result<Roles, ConfigFault>
-    ensures roles { IfOk result (λ roles. faulted (roles_for greatest (table_view root.now)) ≡ Ok roles.list) }
+    ensures roles { IfOk result
+        (λ roles. faulted (roles_for greatest (table_view root.now)) ≡ Ok roles.list) }
     ensures fault { IfErr result (IsFaultOf (faulted (roles_for greatest (table_view root.now)))) }
 {
     let nodes = node_values(root).ok_or(FieldName::Node)?;
@@ -153,9 +160,11 @@ pub(crate) fn roles(alloc: Global, greatest: u8, root: &Table) -> Result<Roles, 
 #[tactic(auto, unfolding(crate::specs::Settings::settings_in))]
 // The settings that a document's table says.
 fn config(alloc: Global, greatest: u8, root: &Table) -> Result<Config, ConfigFault>
-    ensures config { IfOk result (λ config. settings_in greatest (table_view root.now) ≡ Ok (settings_of config)) }
+    ensures config { IfOk result
+        (λ config. settings_in greatest (table_view root.now) ≡ Ok (settings_of config)) }
     ensures redundancy { IfOk result (λ config. IsRedundancy config.redundancy) }
-    ensures fault { IfErr result (IsFaultOf (faulted (settings_in greatest (table_view root.now)))) }
+    ensures fault { IfErr result
+        (IsFaultOf (faulted (settings_in greatest (table_view root.now)))) }
 {
     let redundancy = values::redundancy(root).ok_or(FieldName::Redundancy)?;
     let buckets = buckets(alloc, greatest, root)?;

@@ -17,14 +17,16 @@ const CAPACITY: u64 = 1 << 50;
 
 /// The value at a key.
 pub(crate) fn value_at<'a>(table: &'a Table, key: &str) -> Option<&'a Value>
-    ensures { option_map (λ value. view value.now) result ≡ get_member key.now (table_view table.now) }
+    ensures { option_map (λ value. view value.now) result ≡ get_member key.now
+        (table_view table.now) }
 {
     table.get(key)
 }
 
 /// The array at a key.
 pub(crate) fn array_at<'a>(table: &'a Table, key: &str) -> Option<&'a Array>
-    ensures { option_map (λ array. array_view array.now) result ≡ option_and_then as_array (get_member key.now (table_view table.now)) }
+    ensures { option_map (λ array. array_view array.now) result ≡ option_and_then as_array
+        (get_member key.now (table_view table.now)) }
 {
     match value_at(table, key) {
         Some(value) => value.as_array(),

@@ -21,14 +21,18 @@ use crdt_rows::{
 
 /// Where so few versions were drawn, and so few blocks stored, each row that fits has a spelling.
 pub fn rows_that_fit_have_a_spelling()
-    ensures { (t : ℕ) (v : Drawn) → AreWithin t v → (r : AnyRow) → RowFits v r → spelling r ≡ Option.Some (spelled r) }
+    ensures { (t : ℕ) (v : Drawn) → AreWithin t v → (r : AnyRow) → RowFits v r →
+        spelling r ≡ Option.Some (spelled r) }
 {}
 
 /// What two rows that fit merge to fits and counts, with one byte for each row that the merge calls for, no more bytes than
 /// both.
 pub fn merges_count_no_more()
-    ensures fits { (t : ℕ) (v : Drawn) → AreWithin t v → (a b : AnyRow) → Same words a b → RowFits v a → RowFits v b → RowFits v (any_join a b) }
-    ensures counts { (t : ℕ) (v : Drawn) → AreWithin t v → (a b : AnyRow) → Same words a b → RowFits v a → RowFits v b → weight (any_join a b) + length (triggered a (any_join a b)) ≤ weight a + weight b }
+    ensures fits { (t : ℕ) (v : Drawn) → AreWithin t v → (a b : AnyRow) → Same words a b →
+        RowFits v a → RowFits v b → RowFits v (any_join a b) }
+    ensures counts { (t : ℕ) (v : Drawn) → AreWithin t v → (a b : AnyRow) → Same words a b →
+        RowFits v a → RowFits v b → weight (any_join a b) + length
+        (triggered a (any_join a b)) ≤ weight a + weight b }
 {
     object_rows_join_as_facts();
     version_rows_join_as_facts();

@@ -31,12 +31,16 @@ pub use samples::a_run_collects;
 /// a row of its key with a version below it, and no message that may still come, an answer or a row to be stored,
 /// carries one.
 pub fn nothing_below<R, L, A, C>()
-    ensures nodes { (join : R → R → R) (s : Words R) (v : Versions R) (k : Layouts L) (trio : L) (trio_roles : List Role → List Role) (partitions : ℕ) (before later : List (Move R L A C)) →
+    ensures nodes { (join : R → R →
+        R) (s : Words R) (v : Versions R) (k : Layouts L) (trio : L) (trio_roles : List Role →
+        List Role) (partitions : ℕ) (before later : List (Move R L A C)) →
         Laws join s → VersionLaws join s v → 1 ≤ partitions → IsLayout k partitions trio → k.reading.version trio ≡ 1 →
         IsRun join s k trio trio_roles partitions empty (before ++ later) → IsPrompt join s v k trio trio_roles (before ++ later) →
         (r : R) (u : Version) → Has (run join s k trio trio_roles empty before).collected r → s.marker r ≡ Some u →
         (n : ℕ) (x : R) → row_at join s ((run join s k trio trio_roles empty (before ++ later)).nodes n).accepted 1 (s.key r) ≡ Some x → v.below x u ≡ false }
-    ensures messages { (join : R → R → R) (s : Words R) (v : Versions R) (k : Layouts L) (trio : L) (trio_roles : List Role → List Role) (partitions : ℕ) (before later : List (Move R L A C)) →
+    ensures messages { (join : R → R →
+        R) (s : Words R) (v : Versions R) (k : Layouts L) (trio : L) (trio_roles : List Role →
+        List Role) (partitions : ℕ) (before later : List (Move R L A C)) →
         Laws join s → VersionLaws join s v → 1 ≤ partitions → IsLayout k partitions trio → k.reading.version trio ≡ 1 →
         IsRun join s k trio trio_roles partitions empty (before ++ later) → IsPrompt join s v k trio trio_roles (before ++ later) →
         (r : R) (u : Version) → Has (run join s k trio trio_roles empty before).collected r → s.marker r ≡ Some u →
@@ -46,7 +50,9 @@ pub fn nothing_below<R, L, A, C>()
 
 /// Only delete markers are collected in a prompt run: each row that was collected is an object row with nothing else.
 pub fn only_tombstones<R, L, A, C>()
-    ensures { (join : R → R → R) (s : Words R) (v : Versions R) (k : Layouts L) (trio : L) (trio_roles : List Role → List Role) (partitions : ℕ) (moves : List (Move R L A C)) →
+    ensures { (join : R → R →
+        R) (s : Words R) (v : Versions R) (k : Layouts L) (trio : L) (trio_roles : List Role →
+        List Role) (partitions : ℕ) (moves : List (Move R L A C)) →
         Laws join s → VersionLaws join s v → 1 ≤ partitions → IsLayout k partitions trio → k.reading.version trio ≡ 1 →
         IsRun join s k trio trio_roles partitions empty moves → IsPrompt join s v k trio trio_roles moves →
         (r : R) → Has (run join s k trio trio_roles empty moves).collected r → (u : Version) × (s.marker r ≡ Some u) }
@@ -54,12 +60,14 @@ pub fn only_tombstones<R, L, A, C>()
 
 /// In a run without the step `collect` nothing is collected, and no message is about collections.
 pub fn nothing_without_collect<R, L, A, C>()
-    ensures { (join : R → R → R) (s : Words R) (k : Layouts L) (trio : L) (trio_roles : List Role → List Role) (moves : List (Move R L A C)) → AreOther moves →
+    ensures { (join : R → R → R) (s : Words R) (k : Layouts L) (trio : L) (trio_roles : List Role →
+        List Role) (moves : List (Move R L A C)) → AreOther moves →
         ((run join s k trio trio_roles empty moves).collected ≡ []) × AllByRecursion (λ (x : Sent R L). IsBare x.packet) (run join s k trio trio_roles empty moves).messages }
 {}
 
 /// Where no row has nothing but a delete marker nothing is collected, whichever nodes are told to collect.
 pub fn nothing_without_markers<R, L, A, C>()
-    ensures { (join : R → R → R) (s : Words R) (k : Layouts L) (trio : L) (trio_roles : List Role → List Role) (moves : List (Move R L A C)) → ((r : R) → s.marker r ≡ None) →
+    ensures { (join : R → R → R) (s : Words R) (k : Layouts L) (trio : L) (trio_roles : List Role →
+        List Role) (moves : List (Move R L A C)) → ((r : R) → s.marker r ≡ None) →
         (run join s k trio trio_roles empty moves).collected ≡ [] }
 {}

@@ -12,13 +12,16 @@ ghost use Rattle.machine_collects.specs.Marked.{markers, done_by, world_after, f
 /// hours after all have confirmed (`waits`), goes on then (`goes_on`), and with the last answer of the second round node 1
 /// drops the row, which is collected (`collects`), and no collection is open any more (`ends`).
 pub fn a_run_collects()
-    ensures begins { (let w = world_after empty first_round in (length w.messages ≡ 21) × (length (w.nodes 1).gc.collections ≡ 1)) }
+    ensures begins { (let w = world_after empty first_round in (length w.messages ≡ 21) ×
+        (length (w.nodes 1).gc.collections ≡ 1)) }
     ensures waits { (let w = world_after empty (first_round ++ confirmed) in
         ((done_by w (plain (Collect 1))).words ≡ Two 0 1) × ((done_by w (plain (Collect 1))).sends ≡ [])) }
     ensures goes_on { (let w = world_after empty (first_round ++ confirmed ++ second_round) in
         (w.collected ≡ []) × ((w.nodes 1).accepted ≡ record { key = 97; value = 1 } ∷ [])) }
-    ensures collects { (let w = world_after empty (first_round ++ confirmed ++ second_round ++ last_answer) in
+    ensures collects { (let w = world_after empty (first_round ++ confirmed ++ second_round ++
+        last_answer) in
         (w.collected ≡ record { key = 97; value = 1 } ∷ []) × ((w.nodes 1).accepted ≡ [])) }
-    ensures ends { (let w = world_after empty (first_round ++ confirmed ++ second_round ++ last_answer) in
+    ensures ends { (let w = world_after empty (first_round ++ confirmed ++ second_round ++
+        last_answer) in
         (length (w.nodes 1).gc.collections ≡ 0) × (row_at greater markers (w.nodes 2).accepted 1 (home ++ 97 ∷ []) ≡ Some (record { key = 97; value = 1 }))) }
 {}

@@ -17,7 +17,8 @@ use world_laws::{empty_world_is_sound, sound_worlds_stay_sound};
 /// Where rows are bounded, each of at most 16,777,216 small steps has room: what it does fits the numbers of the code, and each
 /// row that it sends or queues has a spelling.
 pub fn small_runs_have_room<R>()
-    ensures { (join : R → R → R) (s : Words R) (fits : R → Bool) (weight : R → ℕ) (moves : List (Doing R)) →
+    ensures { (join : R → R → R) (s : Words R) (fits : R → Bool) (weight : R →
+        ℕ) (moves : List (Doing R)) →
         AreBounded join s (λ r. IsTrue (fits r)) weight → AreSmall join s (λ r. IsTrue (fits r)) weight 0 empty moves →
         length moves ≤ 16777216 → HaveRoom join s empty moves }
 {

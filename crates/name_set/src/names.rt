@@ -29,7 +29,8 @@ impl Model for Names {
 
 // Adds a name to those that are known.
 fn add(alloc: Global, known: &mut BTreeSet<Vec<u8>>, name: &[u8]) -> Result<(), Memory>
-    ensures added { OnOk result ((other : List ℕ) → finds other known.new ≡ (pointwise nat_eq other name.now || finds other known.old)) }
+    ensures added { OnOk result ((other : List ℕ) →
+        finds other known.new ≡ (pointwise nat_eq other name.now || finds other known.old)) }
     ensures unchanged { OnErr result (known.new.keys ≡ known.old.keys) }
     ensures want { OnlyWant result }
 {

@@ -28,7 +28,8 @@ impl<S: Schema> Node<S> {
 
     // Who collects.
     fn collector(&self, now: u64) -> Collector
-        ensures { result ≡ record { node = self.now.id; newest = newest reading (view_of self.now); now = now; alloc = self.now.alloc } }
+        ensures { result ≡
+            record { node = self.now.id; newest = newest reading (view_of self.now); now = now; alloc = self.now.alloc } }
     {
         Collector {
             node: self.id,
@@ -49,8 +50,11 @@ impl<S: Schema> Node<S> {
         out: &mut Vec<Envelope<S::Row>>,
     ) -> Result<(), Memory>
         requires needs_none { NeedsNone (blake2b 32) S.words row.now }
-        ensures takes { OnOk result (Does S.Row.join S.words self.old self.new out.old.items out.new.items None (λ id x. takes_tomb S.Row.join S.words layouts id now x from collection round row.now)) }
-        ensures causes { WantOr result (Overflows S.Row.join S.words self.old (λ id x. takes_tomb S.Row.join S.words layouts id now x from collection round row.now)) }
+        ensures takes { OnOk result
+            (Does S.Row.join S.words self.old self.new out.old.items out.new.items None
+            (λ id x. takes_tomb S.Row.join S.words layouts id now x from collection round row.now)) }
+        ensures causes { WantOr result (Overflows S.Row.join S.words self.old
+            (λ id x. takes_tomb S.Row.join S.words layouts id now x from collection round row.now)) }
     {
         self.contents.merge(&self.view, self.id, row, now)?;
         let message = Message::Tombed {
@@ -72,7 +76,9 @@ impl<S: Schema> Node<S> {
         now: u64,
         out: &mut Vec<Envelope<S::Row>>,
     ) -> Result<Option<(u64, u64)>, Memory>
-        ensures comes { IfOk result (λ dropped. Drops S.Row.join S.words self.old self.new out.old.items out.new.items dropped (λ id x. tomb_came S.Row.join S.words layouts id now x from collection round named)) }
+        ensures comes { IfOk result
+            (λ dropped. Drops S.Row.join S.words self.old self.new out.old.items out.new.items dropped
+            (λ id x. tomb_came S.Row.join S.words layouts id now x from collection round named)) }
         ensures want { OnlyWant result }
     {
         let end = self.gc.tombed(collection, round, from, named, now)?;
@@ -89,7 +95,9 @@ impl<S: Schema> Node<S> {
         now: u64,
         out: &mut Vec<Envelope<S::Row>>,
     ) -> Result<Option<(u64, u64)>, Memory>
-        ensures finishes { IfOk result (λ dropped. Drops S.Row.join S.words self.old self.new out.old.items out.new.items dropped (λ id x. finishes S.Row.join S.words layouts id x (numbered collection x.gc))) }
+        ensures finishes { IfOk result
+            (λ dropped. Drops S.Row.join S.words self.old self.new out.old.items out.new.items dropped
+            (λ id x. finishes S.Row.join S.words layouts id x (numbered collection x.gc))) }
         ensures want { OnlyWant result }
     {
         let collector = self.collector(now);
@@ -108,7 +116,9 @@ impl<S: Schema> Node<S> {
         key: &Bytes,
         hash: &Hash32,
     ) -> Result<Option<(u64, u64)>, Memory>
-        ensures forgets { IfOk result (λ dropped. (out : List (Envelope S.Row)) → Drops S.Row.join S.words self.old self.new out out dropped (λ id x. forgets S.Row.join S.words x table key.now hash.now.0)) }
+        ensures forgets { IfOk result (λ dropped. (out : List (Envelope S.Row)) →
+            Drops S.Row.join S.words self.old self.new out out dropped
+            (λ id x. forgets S.Row.join S.words x table key.now hash.now.0)) }
         ensures want { OnlyWant result }
     {
         self.contents.forget(table, key.as_slice(), hash)
@@ -120,8 +130,11 @@ impl<S: Schema> Node<S> {
         now: u64,
         out: &mut Vec<Envelope<S::Row>>,
     ) -> Result<LocalEnd, Memory>
-        ensures collects { IfOk result (λ how. Acts S.Row.join S.words self.old self.new out.old.items out.new.items how (λ id x. acts S.Row.join S.words layouts id now x Gather)) }
-        ensures causes { WantOr result (Overflows S.Row.join S.words self.old (λ id x. (acts S.Row.join S.words layouts id now x Gather).did)) }
+        ensures collects { IfOk result
+            (λ how. Acts S.Row.join S.words self.old self.new out.old.items out.new.items how
+            (λ id x. acts S.Row.join S.words layouts id now x Gather)) }
+        ensures causes { WantOr result (Overflows S.Row.join S.words self.old
+            (λ id x. (acts S.Row.join S.words layouts id now x Gather).did)) }
     {
         let collector = self.collector(now);
         let begun = collector.collect(&self.contents, &mut self.gc, out)?;

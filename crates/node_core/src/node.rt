@@ -103,14 +103,16 @@ impl<S: Schema> Node<S> {
     }
 
     pub fn table(&self) -> &Table<S>
-        ensures { (id : ℕ) (x : Model S.Row Layout) → StandsFor S.Row.join S.words self.now id x → result.now ≡ rows S.Row.join S.words x.accepted }
+        ensures { (id : ℕ) (x : Model S.Row Layout) → StandsFor S.Row.join S.words self.now id x →
+            result.now ≡ rows S.Row.join S.words x.accepted }
     {
         &self.contents.table
     }
 
     /// How many blocks the node has.
     pub fn block_count(&self) -> usize
-        ensures { (id : ℕ) (x : Model S.Row Layout) → StandsFor S.Row.join S.words self.now id x → result ≡ length x.blocks }
+        ensures { (id : ℕ) (x : Model S.Row Layout) → StandsFor S.Row.join S.words self.now id x →
+            result ≡ length x.blocks }
     {
         self.contents.blocks.len()
     }
@@ -126,10 +128,16 @@ impl<S: Schema> Node<S> {
 
     /// A request begins. Its number is above those of the open ones.
     pub fn open(&mut self, request: u64) -> Result<(), BeginFault>
-        ensures opens { OnOk result ((id : ℕ) (x : Model S.Row Layout) → All (λ c. c.request < request) x.calls → StandsFor S.Row.join S.words self.old id x → StandsFor S.Row.join S.words self.new id (opened request (newest reading x.view) x)) }
-        ensures member { OnOk result ((id : ℕ) (x : Model S.Row Layout) → StandsFor S.Row.join S.words self.old id x → is_member layouts x.view id ≡ true) }
-        ensures causes { IfErr result (λ e. (e ≡ WantsMemory) ⊎ ((e ≡ NotMember) × ((id : ℕ) (x : Model S.Row Layout) → StandsFor S.Row.join S.words self.old id x → is_member layouts x.view id ≡ false))) }
-        ensures unchanged { OnErr result (Becomes S.Row.join S.words self.old self.new (λ id x. x)) }
+        ensures opens { OnOk result ((id : ℕ) (x : Model S.Row Layout) →
+            All (λ c. c.request < request) x.calls → StandsFor S.Row.join S.words self.old id x →
+            StandsFor S.Row.join S.words self.new id (opened request (newest reading x.view) x)) }
+        ensures member { OnOk result ((id : ℕ) (x : Model S.Row Layout) →
+            StandsFor S.Row.join S.words self.old id x → is_member layouts x.view id ≡ true) }
+        ensures causes { IfErr result (λ e. (e ≡ WantsMemory) ⊎
+            ((e ≡ NotMember) × ((id : ℕ) (x : Model S.Row Layout) →
+            StandsFor S.Row.join S.words self.old id x → is_member layouts x.view id ≡ false))) }
+        ensures unchanged { OnErr result (Becomes S.Row.join S.words self.old self.new
+            (λ id x. x)) }
     {
         if !is_member(&self.view, self.id) {
             return Err(BeginFault::NotMember);
@@ -148,8 +156,12 @@ impl<S: Schema> Node<S> {
         out: &mut Vec<Envelope<S::Row>>,
     ) -> Result<(), Memory>
         requires short { IsShort phase }
-        ensures begins { OnOk result ((kept : List S.Row) → Does S.Row.join S.words self.old self.new out.old.items out.new.items None (λ id x. begins_at S.words kept x phase (call_at x.calls request))) }
-        ensures causes { WantOr result ((kept : List S.Row) → Overflows S.Row.join S.words self.old (λ id x. begins_at S.words kept x phase (call_at x.calls request))) }
+        ensures begins { OnOk result ((kept : List S.Row) →
+            Does S.Row.join S.words self.old self.new out.old.items out.new.items None
+            (λ id x. begins_at S.words kept x phase (call_at x.calls request))) }
+        ensures causes { WantOr result ((kept : List S.Row) →
+            Overflows S.Row.join S.words self.old
+            (λ id x. begins_at S.words kept x phase (call_at x.calls request))) }
     {
         let Some(phases) = self.calls.phases(request) else {
             return Ok(());
@@ -183,7 +195,9 @@ impl<S: Schema> Node<S> {
         phase: u32,
         out: &mut Vec<Envelope<S::Row>>,
     ) -> Result<(), Memory>
-        ensures answers { OnOk result (Does S.Row.join S.words self.now self.now out.old.items out.new.items None (λ id x. answers x from (message.NotHere (tag.Call request phase 0)))) }
+        ensures answers { OnOk result
+            (Does S.Row.join S.words self.now self.now out.old.items out.new.items None
+            (λ id x. answers x from (message.NotHere (tag.Call request phase 0)))) }
         ensures want { OnlyWant result }
     {
         let tag = Tag::Call {
@@ -205,7 +219,11 @@ impl<S: Schema> Node<S> {
         key: &Bytes,
         out: &mut Vec<Envelope<S::Row>>,
     ) -> Result<(), Memory>
-        ensures answers { OnOk result (Does S.Row.join S.words self.now self.now out.old.items out.new.items None (λ id x. where_stored S.Row.join S.words layouts x from request phase at (gives_row S.Row.join S.words layouts x from request phase (row_at S.Row.join S.words x.accepted table key.now)))) }
+        ensures answers { OnOk result
+            (Does S.Row.join S.words self.now self.now out.old.items out.new.items None
+            (λ id x. where_stored S.Row.join S.words layouts x from request phase at
+            (gives_row S.Row.join S.words layouts x from request phase
+            (row_at S.Row.join S.words x.accepted table key.now)))) }
         ensures want { OnlyWant result }
     {
         if !is_stored(&self.view, at) {
@@ -232,7 +250,12 @@ impl<S: Schema> Node<S> {
         after: &Bytes,
         out: &mut Vec<Envelope<S::Row>>,
     ) -> Result<(), Memory>
-        ensures answers { OnOk result (Does S.Row.join S.words self.now self.now out.old.items out.new.items None (λ id x. where_stored S.Row.join S.words layouts x from request phase at (gives_rows S.Row.join S.words layouts x from request phase (range S.words 1 (bucket.now.0 ++ prefix.now) (bucket.now.0 ++ after.now) most_rows (rows S.Row.join S.words x.accepted))))) }
+        ensures answers { OnOk result
+            (Does S.Row.join S.words self.now self.now out.old.items out.new.items None
+            (λ id x. where_stored S.Row.join S.words layouts x from request phase at
+            (gives_rows S.Row.join S.words layouts x from request phase
+            (range S.words 1 (bucket.now.0 ++ prefix.now) (bucket.now.0 ++ after.now) most_rows
+            (rows S.Row.join S.words x.accepted))))) }
         ensures want { OnlyWant result }
     {
         if !is_stored(&self.view, at) {
@@ -265,7 +288,11 @@ impl<S: Schema> Node<S> {
         hash: &Hash32,
         out: &mut Vec<Envelope<S::Row>>,
     ) -> Result<(), Memory>
-        ensures answers { OnOk result (Does S.Row.join S.words self.now self.now out.old.items out.new.items None (λ id x. where_stored S.Row.join S.words layouts x from request phase at (gives_block S.Row.join S.words layouts x from request phase (block_at x.blocks hash.now.0)))) }
+        ensures answers { OnOk result
+            (Does S.Row.join S.words self.now self.now out.old.items out.new.items None
+            (λ id x. where_stored S.Row.join S.words layouts x from request phase at
+            (gives_block S.Row.join S.words layouts x from request phase
+            (block_at x.blocks hash.now.0)))) }
         ensures want { OnlyWant result }
     {
         if !is_stored(&self.view, at) {
@@ -294,8 +321,11 @@ impl<S: Schema> Node<S> {
         out: &mut Vec<Envelope<S::Row>>,
     ) -> Result<(), Memory>
         requires stocked { AllByRecursion (IsRowWithBlock (blake2b 32) S.words) rows.now }
-        ensures takes { OnOk result (Does S.Row.join S.words self.old self.new out.old.items out.new.items None (λ id x. takes S.Row.join S.words layouts id now x from tag named p rows.now)) }
-        ensures causes { WantOr result (Overflows S.Row.join S.words self.old (λ id x. takes S.Row.join S.words layouts id now x from tag named p rows.now)) }
+        ensures takes { OnOk result
+            (Does S.Row.join S.words self.old self.new out.old.items out.new.items None
+            (λ id x. takes S.Row.join S.words layouts id now x from tag named p rows.now)) }
+        ensures causes { WantOr result (Overflows S.Row.join S.words self.old
+            (λ id x. takes S.Row.join S.words layouts id now x from tag named p rows.now)) }
     {
         let newest = self.view.newest();
         if newest < named {
@@ -310,7 +340,9 @@ impl<S: Schema> Node<S> {
 
     // A confirmation.
     fn take_stored(&mut self, from: u8, tag: Tag) -> Result<Option<(u64, PhaseEnd<S::Row>)>, Memory>
-        ensures confirms { IfOk result (λ given. (out : List (Envelope S.Row)) → Does S.Row.join S.words self.old self.new out out given (λ id x. confirms S.Row.join S.words layouts id x from tag)) }
+        ensures confirms { IfOk result (λ given. (out : List (Envelope S.Row)) →
+            Does S.Row.join S.words self.old self.new out out given
+            (λ id x. confirms S.Row.join S.words layouts id x from tag)) }
         ensures want { OnlyWant result }
     {
         match tag {
@@ -338,7 +370,9 @@ impl<S: Schema> Node<S> {
 
     // After the view has changed: the round may close, and where the oldest version rose rows are dropped.
     fn look_around(&mut self, before: u32, now: u64) -> Result<(), Memory>
-        ensures sees { OnOk result ((id : ℕ) (x : Model S.Row Layout) (v : Seen Layout) → oldest reading x.view ≡ before → StandsButView S.Row.join S.words self.old id x v → StandsFor S.Row.join S.words self.new id (sees S.Row.join S.words layouts id now x v)) }
+        ensures sees { OnOk result ((id : ℕ) (x : Model S.Row Layout) (v : Seen Layout) →
+            oldest reading x.view ≡ before → StandsButView S.Row.join S.words self.old id x v →
+            StandsFor S.Row.join S.words self.new id (sees S.Row.join S.words layouts id now x v)) }
         ensures want { OnlyWant result }
     {
         let oldest = self.view.oldest();
@@ -351,7 +385,9 @@ impl<S: Schema> Node<S> {
 
     // A whole view comes.
     fn take_view(&mut self, view: &View, now: u64) -> Result<(), Memory>
-        ensures sees { OnOk result (Becomes S.Row.join S.words self.old self.new (λ id x. sees S.Row.join S.words layouts id now x (merged reading x.view (known view.now)))) }
+        ensures sees { OnOk result (Becomes S.Row.join S.words self.old self.new
+            (λ id x. sees S.Row.join S.words layouts id now x
+            (merged reading x.view (known view.now)))) }
         ensures want { OnlyWant result }
     {
         let before = self.view.oldest();
@@ -369,9 +405,13 @@ impl<S: Schema> Node<S> {
         out: &mut Vec<Envelope<S::Row>>,
     ) -> Result<Option<(u64, PhaseEnd<S::Row>)>, Memory>
         requires stocked { PacketCarriesBlocks (blake2b 32) S.words (told packet.now) }
-        ensures receives { IfOk result (λ given. Does S.Row.join S.words self.old self.new out.old.items out.new.items given (λ id x. receives S.Row.join S.words layouts id now x from (told packet.now))) }
-        ensures dropped { OnOk result (HasDropped S.Row.join S.words self.old (dropped_of self.new) (λ id x. receives S.Row.join S.words layouts id now x from (told packet.now))) }
-        ensures causes { WantOr result (Overflows S.Row.join S.words self.old (λ id x. receives S.Row.join S.words layouts id now x from (told packet.now))) }
+        ensures receives { IfOk result
+            (λ given. Does S.Row.join S.words self.old self.new out.old.items out.new.items given
+            (λ id x. receives S.Row.join S.words layouts id now x from (told packet.now))) }
+        ensures dropped { OnOk result (HasDropped S.Row.join S.words self.old (dropped_of self.new)
+            (λ id x. receives S.Row.join S.words layouts id now x from (told packet.now))) }
+        ensures causes { WantOr result (Overflows S.Row.join S.words self.old
+            (λ id x. receives S.Row.join S.words layouts id now x from (told packet.now))) }
     {
         let heard = self.hear(from, packet, now, out)?;
         self.dropped = heard.dropped;
@@ -387,9 +427,13 @@ impl<S: Schema> Node<S> {
         out: &mut Vec<Envelope<S::Row>>,
     ) -> Result<Heard<S::Row>, Memory>
         requires stocked { PacketCarriesBlocks (blake2b 32) S.words (told packet.now) }
-        ensures receives { IfOk result (λ heard. Does S.Row.join S.words self.old self.new out.old.items out.new.items heard.ended (λ id x. receives S.Row.join S.words layouts id now x from (told packet.now))) }
-        ensures dropped { IfOk result (λ heard. HasDropped S.Row.join S.words self.old heard.dropped (λ id x. receives S.Row.join S.words layouts id now x from (told packet.now))) }
-        ensures causes { WantOr result (Overflows S.Row.join S.words self.old (λ id x. receives S.Row.join S.words layouts id now x from (told packet.now))) }
+        ensures receives { IfOk result
+            (λ heard. Does S.Row.join S.words self.old self.new out.old.items out.new.items heard.ended
+            (λ id x. receives S.Row.join S.words layouts id now x from (told packet.now))) }
+        ensures dropped { IfOk result (λ heard. HasDropped S.Row.join S.words self.old heard.dropped
+            (λ id x. receives S.Row.join S.words layouts id now x from (told packet.now))) }
+        ensures causes { WantOr result (Overflows S.Row.join S.words self.old
+            (λ id x. receives S.Row.join S.words layouts id now x from (told packet.now))) }
     {
         match packet {
             Packet::Msg(message) => self.on_message(from, message.get(), now, out),
@@ -409,9 +453,13 @@ impl<S: Schema> Node<S> {
         out: &mut Vec<Envelope<S::Row>>,
     ) -> Result<Heard<S::Row>, Memory>
         requires stocked { CarriesBlocks (blake2b 32) S.words message.now }
-        ensures hears { IfOk result (λ heard. Does S.Row.join S.words self.old self.new out.old.items out.new.items heard.ended (λ id x. hears S.Row.join S.words layouts id now x from message.now)) }
-        ensures dropped { IfOk result (λ heard. HasDropped S.Row.join S.words self.old heard.dropped (λ id x. hears S.Row.join S.words layouts id now x from message.now)) }
-        ensures causes { WantOr result (Overflows S.Row.join S.words self.old (λ id x. hears S.Row.join S.words layouts id now x from message.now)) }
+        ensures hears { IfOk result
+            (λ heard. Does S.Row.join S.words self.old self.new out.old.items out.new.items heard.ended
+            (λ id x. hears S.Row.join S.words layouts id now x from message.now)) }
+        ensures dropped { IfOk result (λ heard. HasDropped S.Row.join S.words self.old heard.dropped
+            (λ id x. hears S.Row.join S.words layouts id now x from message.now)) }
+        ensures causes { WantOr result (Overflows S.Row.join S.words self.old
+            (λ id x. hears S.Row.join S.words layouts id now x from message.now)) }
     {
         match message {
             Message::Get {
@@ -542,7 +590,9 @@ impl<S: Schema> Node<S> {
 
     // Raises the node's own entry; the version that it has then.
     fn raise(&mut self, which: Which, version: u32) -> Result<LocalEnd, Memory>
-        ensures raises { IfOk result (λ how. (out : List (Envelope S.Row)) → Acts S.Row.join S.words self.old self.new out out how (λ id x. raises S.Row.join S.words layouts id x which version)) }
+        ensures raises { IfOk result (λ how. (out : List (Envelope S.Row)) →
+            Acts S.Row.join S.words self.old self.new out out how
+            (λ id x. raises S.Row.join S.words layouts id x which version)) }
         ensures want { OnlyWant result }
     {
         self.view.raise(which, self.id, version)?;
@@ -552,7 +602,9 @@ impl<S: Schema> Node<S> {
 
     // Drops the layout versions that nobody needs.
     fn clean(&mut self, now: u64) -> Result<LocalEnd, Memory>
-        ensures cleans { IfOk result (λ how. (out : List (Envelope S.Row)) → Acts S.Row.join S.words self.old self.new out out how (λ id x. cleans S.Row.join S.words layouts id now x)) }
+        ensures cleans { IfOk result (λ how. (out : List (Envelope S.Row)) →
+            Acts S.Row.join S.words self.old self.new out out how
+            (λ id x. cleans S.Row.join S.words layouts id now x)) }
         ensures want { OnlyWant result }
     {
         let before = self.view.oldest();
@@ -569,8 +621,11 @@ impl<S: Schema> Node<S> {
         out: &mut Vec<Envelope<S::Row>>,
     ) -> Result<LocalEnd, Memory>
         requires has_version { 1 ≤ newest reading (view_of self.old) }
-        ensures acts { IfOk result (λ how. Acts S.Row.join S.words self.old self.new out.old.items out.new.items how (λ id x. acts S.Row.join S.words layouts id now x action)) }
-        ensures causes { WantOr result (Overflows S.Row.join S.words self.old (λ id x. (acts S.Row.join S.words layouts id now x action).did)) }
+        ensures acts { IfOk result
+            (λ how. Acts S.Row.join S.words self.old self.new out.old.items out.new.items how
+            (λ id x. acts S.Row.join S.words layouts id now x action)) }
+        ensures causes { WantOr result (Overflows S.Row.join S.words self.old
+            (λ id x. (acts S.Row.join S.words layouts id now x action).did)) }
     {
         match action {
             Action::Ack => {
@@ -597,8 +652,10 @@ impl<S: Schema> Node<S> {
     pub fn append(&mut self, layout: Layout) -> Result<(), Memory>
         requires next { layout.version ≡ newest reading (view_of self.old) + 1 }
         requires inhabited { IsTrue (has_members layout) }
-        ensures appends { OnOk result (Becomes S.Row.join S.words self.old self.new (λ id x. appends layouts x layout)) }
-        ensures unchanged { OnErr result (Becomes S.Row.join S.words self.old self.new (λ id x. x)) }
+        ensures appends { OnOk result (Becomes S.Row.join S.words self.old self.new
+            (λ id x. appends layouts x layout)) }
+        ensures unchanged { OnErr result (Becomes S.Row.join S.words self.old self.new
+            (λ id x. x)) }
         ensures want { OnlyWant result }
     {
         self.view.append(layout)
@@ -608,7 +665,8 @@ impl<S: Schema> Node<S> {
     pub fn view_with(&self, layout: Layout) -> Result<View, Memory>
         requires next { layout.version ≡ newest reading (view_of self.now) + 1 }
         requires inhabited { IsTrue (has_members layout) }
-        ensures appended { IfOk result (λ view. known view ≡ appended reading (view_of self.now) layout) }
+        ensures appended { IfOk result
+            (λ view. known view ≡ appended reading (view_of self.now) layout) }
         ensures want { OnlyWant result }
     {
         let mut view = self.view.copy()?;
@@ -618,7 +676,8 @@ impl<S: Schema> Node<S> {
 
     /// Puts a view of `view_with` in the place of the node's.
     pub fn show(&mut self, view: View)
-        ensures { (l : Layout) → l.version ≡ newest reading (view_of self.old) + 1 → known view ≡ appended reading (view_of self.old) l →
+        ensures { (l : Layout) → l.version ≡ newest reading (view_of self.old) + 1 →
+            known view ≡ appended reading (view_of self.old) l →
             Becomes S.Row.join S.words self.old self.new (λ id x. appends layouts x l) }
     {
         self.view = view;
@@ -627,9 +686,13 @@ impl<S: Schema> Node<S> {
     /// Loses what a node keeps in memory alone: its requests, its round, its collections, and who confirmed its outbox.
     /// The lost requests, ascending.
     pub fn restart(&mut self) -> Result<Vec<u64>, Memory>
-        ensures restarts { OnOk result (Becomes S.Row.join S.words self.old self.new (λ id x. restarts x)) }
-        ensures lost { IfOk result (λ lost. (id : ℕ) (x : Model S.Row Layout) → StandsFor S.Row.join S.words self.old id x → lost.items ≡ reverse (requests_of x.calls)) }
-        ensures unchanged { OnErr result (Becomes S.Row.join S.words self.old self.new (λ id x. x)) }
+        ensures restarts { OnOk result (Becomes S.Row.join S.words self.old self.new
+            (λ id x. restarts x)) }
+        ensures lost { IfOk result (λ lost. (id : ℕ) (x : Model S.Row Layout) →
+            StandsFor S.Row.join S.words self.old id x →
+            lost.items ≡ reverse (requests_of x.calls)) }
+        ensures unchanged { OnErr result (Becomes S.Row.join S.words self.old self.new
+            (λ id x. x)) }
         ensures want { OnlyWant result }
     {
         let lost = self.calls.lose_all()?;

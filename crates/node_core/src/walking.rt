@@ -44,7 +44,9 @@ impl<S: Schema> Node<S> {
 
     // A round that is complete closes, and the node has synced to its version. Its walks last.
     fn go_on(&mut self, moving: Moving) -> Result<(), Memory>
-        ensures goes_on { OnOk result ((id : ℕ) (x : Model S.Row Layout) (r : Moved) → IsMoving id moving r → StandsApart S.Row.join S.words self.old id x → StandsFor S.Row.join S.words self.new id (goes_on S.Row.join S.words layouts id x r)) }
+        ensures goes_on { OnOk result ((id : ℕ) (x : Model S.Row Layout) (r : Moved) →
+            IsMoving id moving r → StandsApart S.Row.join S.words self.old id x →
+            StandsFor S.Row.join S.words self.new id (goes_on S.Row.join S.words layouts id x r)) }
         ensures want { OnlyWant result }
     {
         if moving.is_complete() {
@@ -59,7 +61,8 @@ impl<S: Schema> Node<S> {
 
     /// A node confirms a partition of the round with this number, where it is the open one.
     pub(crate) fn confirm_round(&mut self, from: u8, number: u64, p: u8) -> Result<(), Memory>
-        ensures confirms { OnOk result (Becomes S.Row.join S.words self.old self.new (λ id x. (round_came S.Row.join S.words layouts id x from number p x.round).node)) }
+        ensures confirms { OnOk result (Becomes S.Row.join S.words self.old self.new
+            (λ id x. (round_came S.Row.join S.words layouts id x from number p x.round).node)) }
         ensures want { OnlyWant result }
     {
         let Some(mut moving) = self.rounds.round.take() else {
@@ -76,7 +79,8 @@ impl<S: Schema> Node<S> {
     // The partitions of which the node has rows, among those whose set in version `here` has the node, with their sets in
     // version `there`. Both versions are stored.
     fn parts(&self, here: u32, there: u32) -> Result<Vec<(u8, [u8; 3])>, Memory>
-        ensures are { IfOk result (λ parts. Moves S.Row.join S.words self.now here there parts.items) }
+        ensures are { IfOk result
+            (λ parts. Moves S.Row.join S.words self.now here there parts.items) }
         ensures want { OnlyWant result }
     {
         match (self.view.layout(here), self.view.layout(there)) {
@@ -92,7 +96,8 @@ impl<S: Schema> Node<S> {
         parts: &[(u8, [u8; 3])],
         out: &mut Vec<Envelope<S::Row>>,
     ) -> Result<Vec<NodeWalk>, Memory>
-        ensures starts { IfOk result (λ begun. Starts S.Row.join S.words self.old number parts.now out.old.items out.new.items begun.items) }
+        ensures starts { IfOk result
+            (λ begun. Starts S.Row.join S.words self.old number parts.now out.old.items out.new.items begun.items) }
         ensures unchanged { OnOk result (self.new ≡ self.old) }
         ensures causes { WantOr result (CannotStart S.Row.join S.words self.old parts.now) }
     {
@@ -103,7 +108,9 @@ impl<S: Schema> Node<S> {
 
     // A round from a version, the read version, to the next may begin.
     fn may_sync(&self, at: u32) -> bool
-        ensures is { (id : ℕ) (x : Model S.Row Layout) → StandsFor S.Row.join S.words self.now id x → read_version reading x.view ≡ at → result ≡ may_sync S.Row.join S.words layouts id x.view }
+        ensures is { (id : ℕ) (x : Model S.Row Layout) →
+            StandsFor S.Row.join S.words self.now id x → read_version reading x.view ≡ at →
+            result ≡ may_sync S.Row.join S.words layouts id x.view }
         ensures below { IsTrue result → at + 1 < 2 ^ 32 }
     {
         let oldest = self.view.oldest();
@@ -116,8 +123,15 @@ impl<S: Schema> Node<S> {
     // Begins a round from a version, the read version, to the next.
     fn begin_round(&mut self, at: u32, out: &mut Vec<Envelope<S::Row>>) -> Result<LocalEnd, Memory>
         requires below { at + 1 < 2 ^ 32 }
-        ensures begins { IfOk result (λ how. (id : ℕ) (x : Model S.Row Layout) → may_sync S.Row.join S.words layouts id x.view ≡ true → read_version reading x.view ≡ at → StandsFor S.Row.join S.words self.old id x → Done S.Row.join S.words self.new id out.old.items out.new.items None (begin_round S.Row.join S.words layouts id x) × (how ≡ At (suc at))) }
-        ensures causes { WantOr result ((id : ℕ) (x : Model S.Row Layout) → may_sync S.Row.join S.words layouts id x.view ≡ true → read_version reading x.view ≡ at → StandsFor S.Row.join S.words self.old id x → Fits S.words (begin_round S.Row.join S.words layouts id x) → ⊥) }
+        ensures begins { IfOk result (λ how. (id : ℕ) (x : Model S.Row Layout) →
+            may_sync S.Row.join S.words layouts id x.view ≡ true →
+            read_version reading x.view ≡ at → StandsFor S.Row.join S.words self.old id x →
+            Done S.Row.join S.words self.new id out.old.items out.new.items None
+            (begin_round S.Row.join S.words layouts id x) × (how ≡ At (suc at))) }
+        ensures causes { WantOr result ((id : ℕ) (x : Model S.Row Layout) →
+            may_sync S.Row.join S.words layouts id x.view ≡ true →
+            read_version reading x.view ≡ at → StandsFor S.Row.join S.words self.old id x →
+            Fits S.words (begin_round S.Row.join S.words layouts id x) → ⊥) }
     {
         let target = at + 1;
         let number = self.rounds.next()?;
@@ -132,8 +146,13 @@ impl<S: Schema> Node<S> {
 
     // The open round starts its walks anew with the nodes that haven't confirmed.
     fn again(&mut self, moving: Moving, out: &mut Vec<Envelope<S::Row>>) -> Result<LocalEnd, Memory>
-        ensures again { IfOk result (λ how. (id : ℕ) (x : Model S.Row Layout) (r : Moved) → IsMoving id moving r → StandsApart S.Row.join S.words self.old id x → Done S.Row.join S.words self.new id out.old.items out.new.items None (again S.Row.join S.words layouts id x r) × (how ≡ At r.target)) }
-        ensures causes { WantOr result ((id : ℕ) (x : Model S.Row Layout) (r : Moved) → IsMoving id moving r → StandsApart S.Row.join S.words self.old id x → (again S.Row.join S.words layouts id x r).is_spelled ≡ false) }
+        ensures again { IfOk result (λ how. (id : ℕ) (x : Model S.Row Layout) (r : Moved) →
+            IsMoving id moving r → StandsApart S.Row.join S.words self.old id x →
+            Done S.Row.join S.words self.new id out.old.items out.new.items None
+            (again S.Row.join S.words layouts id x r) × (how ≡ At r.target)) }
+        ensures causes { WantOr result ((id : ℕ) (x : Model S.Row Layout) (r : Moved) →
+            IsMoving id moving r → StandsApart S.Row.join S.words self.old id x →
+            (again S.Row.join S.words layouts id x r).is_spelled ≡ false) }
     {
         let mut moving = moving;
         let target = moving.target();
@@ -148,8 +167,11 @@ impl<S: Schema> Node<S> {
 
     /// Begins a round, or goes on with the open one.
     pub(crate) fn sync(&mut self, out: &mut Vec<Envelope<S::Row>>) -> Result<LocalEnd, Memory>
-        ensures syncs { IfOk result (λ how. Acts S.Row.join S.words self.old self.new out.old.items out.new.items how (λ id x. syncs S.Row.join S.words layouts id x x.round)) }
-        ensures causes { WantOr result (Overflows S.Row.join S.words self.old (λ id x. (syncs S.Row.join S.words layouts id x x.round).did)) }
+        ensures syncs { IfOk result
+            (λ how. Acts S.Row.join S.words self.old self.new out.old.items out.new.items how
+            (λ id x. syncs S.Row.join S.words layouts id x x.round)) }
+        ensures causes { WantOr result (Overflows S.Row.join S.words self.old
+            (λ id x. (syncs S.Row.join S.words layouts id x x.round).did)) }
     {
         if let Some(moving) = self.rounds.round.take() {
             return self.again(moving, out);
@@ -165,8 +187,11 @@ impl<S: Schema> Node<S> {
     /// Walks with the other nodes of each partition's newest set.
     pub(crate) fn repair(&mut self, out: &mut Vec<Envelope<S::Row>>) -> Result<LocalEnd, Memory>
         requires has_version { 1 ≤ newest reading (view_of self.old) }
-        ensures repairs { IfOk result (λ how. (how ≡ Repaired) × Does S.Row.join S.words self.old self.new out.old.items out.new.items None (λ id x. repairs S.Row.join S.words layouts id x)) }
-        ensures causes { WantOr result (Overflows S.Row.join S.words self.old (λ id x. repairs S.Row.join S.words layouts id x)) }
+        ensures repairs { IfOk result (λ how. (how ≡ Repaired) ×
+            Does S.Row.join S.words self.old self.new out.old.items out.new.items None
+            (λ id x. repairs S.Row.join S.words layouts id x)) }
+        ensures causes { WantOr result (Overflows S.Row.join S.words self.old
+            (λ id x. repairs S.Row.join S.words layouts id x)) }
     {
         let number = self.rounds.next()?;
         let newest = self.view.newest();
@@ -190,8 +215,11 @@ impl<S: Schema> Node<S> {
         hash: &Hash32,
         out: &mut Vec<Envelope<S::Row>>,
     ) -> Result<(), Memory>
-        ensures compares { OnOk result (Does S.Row.join S.words self.old self.new out.old.items out.new.items None (λ id x. compares S.Row.join S.words layouts id x from tag named p table prefix.now hash.now)) }
-        ensures causes { WantOr result (Overflows S.Row.join S.words self.old (λ id x. compares S.Row.join S.words layouts id x from tag named p table prefix.now hash.now)) }
+        ensures compares { OnOk result
+            (Does S.Row.join S.words self.old self.new out.old.items out.new.items None
+            (λ id x. compares S.Row.join S.words layouts id x from tag named p table prefix.now hash.now)) }
+        ensures causes { WantOr result (Overflows S.Row.join S.words self.old
+            (λ id x. compares S.Row.join S.words layouts id x from tag named p table prefix.now hash.now)) }
     {
         let newest = self.view.newest();
         if newest < named {
@@ -214,8 +242,13 @@ impl<S: Schema> Node<S> {
         children: Option<&[(u8, Hash32)]>,
         out: &mut Vec<Envelope<S::Row>>,
     ) -> Result<(), Memory>
-        ensures walks { OnOk result (Does S.Row.join S.words self.old self.new out.old.items out.new.items None (λ id x. walks_on S.Row.join S.words layouts id x from tag table prefix.now (option_copied children.entry))) }
-        ensures causes { WantOr result (Overflows S.Row.join S.words self.old (λ id x. walks_on S.Row.join S.words layouts id x from tag table prefix.now (option_copied children.entry))) }
+        ensures walks { OnOk result
+            (Does S.Row.join S.words self.old self.new out.old.items out.new.items None
+            (λ id x. walks_on S.Row.join S.words layouts id x from tag table prefix.now
+            (option_copied children.entry))) }
+        ensures causes { WantOr result (Overflows S.Row.join S.words self.old
+            (λ id x. walks_on S.Row.join S.words layouts id x from tag table prefix.now
+            (option_copied children.entry))) }
     {
         let Tag::Round { round, p } = tag else {
             return Ok(());
@@ -237,8 +270,13 @@ impl<S: Schema> Node<S> {
         answer: Answer<'_>,
         out: &mut Vec<Envelope<S::Row>>,
     ) -> Result<(), Memory>
-        ensures comes { OnOk result (Does S.Row.join S.words self.old self.new out.old.items out.new.items None (λ id x. answer_came S.Row.join S.words layouts id x answer.entry.from number answer.entry.p answer.entry.table answer.entry.prefix.now (children_of answer.entry) x.round)) }
-        ensures causes { WantOr result (Overflows S.Row.join S.words self.old (λ id x. answer_came S.Row.join S.words layouts id x answer.entry.from number answer.entry.p answer.entry.table answer.entry.prefix.now (children_of answer.entry) x.round)) }
+        ensures comes { OnOk result
+            (Does S.Row.join S.words self.old self.new out.old.items out.new.items None
+            (λ id x. answer_came S.Row.join S.words layouts id x answer.entry.from number answer.entry.p answer.entry.table answer.entry.prefix.now
+            (children_of answer.entry) x.round)) }
+        ensures causes { WantOr result (Overflows S.Row.join S.words self.old
+            (λ id x. answer_came S.Row.join S.words layouts id x answer.entry.from number answer.entry.p answer.entry.table answer.entry.prefix.now
+            (children_of answer.entry) x.round)) }
     {
         let Some(moving) = self.rounds.round.take() else {
             return self.late_came(number, answer, out);
@@ -257,9 +295,11 @@ impl<S: Schema> Node<S> {
         answer: Answer<'_>,
         out: &mut Vec<Envelope<S::Row>>,
     ) -> Result<(), Memory>
-        ensures walks { OnOk result ((id : ℕ) (x : Model S.Row Layout) (r : Moved) → x.round ≡ Some r → IsMoving id moving r → StandsApart S.Row.join S.words self.old id x →
+        ensures walks { OnOk result ((id : ℕ) (x : Model S.Row Layout) (r : Moved) →
+            x.round ≡ Some r → IsMoving id moving r → StandsApart S.Row.join S.words self.old id x →
             Done S.Row.join S.words self.new id out.old.items out.new.items None (at_walk S.Row.join S.words layouts x answer.entry.table answer.entry.prefix.now (round_walks S.Row.join S.words layouts id x answer.entry.table answer.entry.prefix.now (children_of answer.entry) r) (walk_at answer.entry.p answer.entry.from r.walks))) }
-        ensures causes { WantOr result ((id : ℕ) (x : Model S.Row Layout) (r : Moved) → x.round ≡ Some r → IsMoving id moving r → StandsApart S.Row.join S.words self.old id x →
+        ensures causes { WantOr result ((id : ℕ) (x : Model S.Row Layout) (r : Moved) →
+            x.round ≡ Some r → IsMoving id moving r → StandsApart S.Row.join S.words self.old id x →
             (at_walk S.Row.join S.words layouts x answer.entry.table answer.entry.prefix.now (round_walks S.Row.join S.words layouts id x answer.entry.table answer.entry.prefix.now (children_of answer.entry) r) (walk_at answer.entry.p answer.entry.from r.walks)).is_spelled ≡ false) }
     {
         let mut moving = moving;
@@ -279,8 +319,13 @@ impl<S: Schema> Node<S> {
         answer: Answer<'_>,
         out: &mut Vec<Envelope<S::Row>>,
     ) -> Result<(), Memory>
-        ensures comes { OnOk result (Does S.Row.join S.words self.old self.new out.old.items out.new.items None (λ id x. late_came S.Row.join S.words layouts x answer.entry.from number answer.entry.p answer.entry.table answer.entry.prefix.now (children_of answer.entry))) }
-        ensures causes { WantOr result (Overflows S.Row.join S.words self.old (λ id x. late_came S.Row.join S.words layouts x answer.entry.from number answer.entry.p answer.entry.table answer.entry.prefix.now (children_of answer.entry))) }
+        ensures comes { OnOk result
+            (Does S.Row.join S.words self.old self.new out.old.items out.new.items None
+            (λ id x. late_came S.Row.join S.words layouts x answer.entry.from number answer.entry.p answer.entry.table answer.entry.prefix.now
+            (children_of answer.entry))) }
+        ensures causes { WantOr result (Overflows S.Row.join S.words self.old
+            (λ id x. late_came S.Row.join S.words layouts x answer.entry.from number answer.entry.p answer.entry.table answer.entry.prefix.now
+            (children_of answer.entry))) }
     {
         let sender = self.sender(number);
         let rounds = &mut self.rounds;

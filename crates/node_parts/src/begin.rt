@@ -39,7 +39,9 @@ pub struct Beginning {
 
 // The nodes of a position in the version that is read.
 fn nodes_at(view: &View, position: &Hash32) -> Option<[u8; 3]>
-    ensures are { IfSome result (λ nodes. nodes ≡ set_at layouts (known view.now) (read_version reading (known view.now)) (partition_at position.now.0)) }
+    ensures are { IfSome result
+        (λ nodes. nodes ≡ set_at layouts (known view.now) (read_version reading (known view.now))
+        (partition_at position.now.0)) }
     ensures stored { IsTrue (leb 1 (newest reading (known view.now))) → IsSome result }
 {
     match view.layout(view.read_version()) {
@@ -57,7 +59,8 @@ impl Beginning {
         row: &(S::Row, Option<Block>),
         out: &mut Vec<Envelope<S::Row>>,
     ) -> Result<Tally, Memory>
-        ensures stores { IfOk result (λ tally. Stores S.words self view.now slot row.now out.old.items out.new.items tally) }
+        ensures stores { IfOk result
+            (λ tally. Stores S.words self view.now slot row.now out.old.items out.new.items tally) }
         ensures causes { WantOr result (is_spelled S.words row.now.0 ≡ false) }
     {
         let p = partition::<S>(&row.0);
@@ -88,7 +91,8 @@ impl Beginning {
         out: &mut Vec<Envelope<S::Row>>,
     ) -> Result<WriteCall, Memory>
         requires short { AreShort rows.now }
-        ensures stores { IfOk result (λ call. StoresAll S.words self view.now rows.now out.old.items out.new.items call) }
+        ensures stores { IfOk result
+            (λ call. StoresAll S.words self view.now rows.now out.old.items out.new.items call) }
         ensures causes { WantOr result (list_all (λ r. is_spelled S.words r.0) rows.now ≡ false) }
     {
         let mut slots = Vec::new(self.alloc);
@@ -107,7 +111,8 @@ impl Beginning {
         out: &mut Vec<Envelope<S::Row>>,
     ) -> Result<Present<S>, Memory>
         requires short { IsShort phase.now }
-        ensures begins { IfOk result (λ present. Begins S.words self view.now phase.now out.old.items out.new.items present) }
+        ensures begins { IfOk result
+            (λ present. Begins S.words self view.now phase.now out.old.items out.new.items present) }
         ensures causes { WantOr result (CannotBegin S.words self view.now phase.now) }
     {
         let at = view.read_version();

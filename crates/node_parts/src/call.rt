@@ -41,7 +41,8 @@ impl<S: Schema> Call<S> {
         from: u8,
         row: &Option<S::Row>,
     ) -> Result<Option<PhaseEnd<S::Row>>, Memory>
-        ensures takes { IfOk result (λ given. TakesRow S.Row.join self.old self.new from row.now given) }
+        ensures takes { IfOk result
+            (λ given. TakesRow S.Row.join self.old self.new from row.now given) }
         ensures want { OnlyWant result }
     {
         let Present::Asking(call) = &mut self.present else {
@@ -63,7 +64,8 @@ impl<S: Schema> Call<S> {
         rows: &[S::Row],
         more: bool,
     ) -> Result<Option<PhaseEnd<S::Row>>, Memory>
-        ensures takes { IfOk result (λ given. TakesRows S.Row.join S.words self.old self.new from rows.now more given) }
+        ensures takes { IfOk result
+            (λ given. TakesRows S.Row.join S.words self.old self.new from rows.now more given) }
         ensures want { OnlyWant result }
     {
         let Present::Scanning(call) = &mut self.present else {

@@ -38,9 +38,11 @@ impl<S: Schema> Calls<S> {
 
     /// A request begins; its number is above those of the open ones.
     pub fn begin(&mut self, request: u64, start: u32) -> Result<(), Memory>
-        ensures begun { (calls : List (Opened S.Row)) → AreCalls self.old calls → All (λ c. c.request < request) calls →
+        ensures begun { (calls : List (Opened S.Row)) → AreCalls self.old calls →
+            All (λ c. c.request < request) calls →
             OnOk result (AreCalls self.new (record { request = request; start = start; phases = 0; present = resting } ∷ calls)) }
-        ensures unchanged { (calls : List (Opened S.Row)) → AreCalls self.old calls → OnErr result (AreCalls self.new calls) }
+        ensures unchanged { (calls : List (Opened S.Row)) → AreCalls self.old calls →
+            OnErr result (AreCalls self.new calls) }
         ensures want { OnlyWant result }
     {
         let call = Call {
@@ -54,14 +56,16 @@ impl<S: Schema> Calls<S> {
 
     /// Forgets a request.
     pub fn end(&mut self, request: u64)
-        ensures { (calls : List (Opened S.Row)) → AreCalls self.old calls → AreCalls self.new (without_call request calls) }
+        ensures { (calls : List (Opened S.Row)) → AreCalls self.old calls →
+            AreCalls self.new (without_call request calls) }
     {
         let _ = self.by_number.remove(&Reverse(request));
     }
 
     /// How many phases of a request began, where it is open.
     pub fn phases(&self, request: u64) -> Option<u32>
-        ensures { (calls : List (Opened S.Row)) → AreCalls self.now calls → result ≡ option_map (λ c. c.phases) (call_at calls request) }
+        ensures { (calls : List (Opened S.Row)) → AreCalls self.now calls →
+            result ≡ option_map (λ c. c.phases) (call_at calls request) }
     {
         match self.by_number.get(&Reverse(request)) {
             Some(call) => Some(call.phases),
@@ -71,7 +75,8 @@ impl<S: Schema> Calls<S> {
 
     /// An open request enters the phase with this number.
     pub fn enter(&mut self, request: u64, number: u32, present: Present<S>)
-        ensures { (calls : List (Opened S.Row)) (c : Opened S.Row) (doing : Doing S.Row) → AreCalls self.old calls → call_at calls request ≡ Some c → IsPresent present doing →
+        ensures { (calls : List (Opened S.Row)) (c : Opened S.Row) (doing : Doing S.Row) →
+            AreCalls self.old calls → call_at calls request ≡ Some c → IsPresent present doing →
             AreCalls self.new (with_call (record c { phases = number; present = doing }) calls) }
     {
         if let Some(call) = self.by_number.get_mut(&Reverse(request)) {
@@ -82,7 +87,8 @@ impl<S: Schema> Calls<S> {
 
     /// The least of a version and of those that were newest when the requests began.
     pub fn least_start(&self, version: u32) -> u32
-        ensures { (calls : List (Opened S.Row)) → AreCalls self.now calls → result ≡ least_start version calls }
+        ensures { (calls : List (Opened S.Row)) → AreCalls self.now calls →
+            result ≡ least_start version calls }
     {
         let mut least = version;
         for call in self.by_number.values() {
@@ -93,7 +99,8 @@ impl<S: Schema> Calls<S> {
 
     /// Forgets all requests, and gives their numbers, ascending.
     pub fn lose_all(&mut self) -> Result<Vec<u64>, Memory>
-        ensures lost { (calls : List (Opened S.Row)) → AreCalls self.old calls → IfOk result (λ lost. lost.items ≡ reverse (requests_of calls)) }
+        ensures lost { (calls : List (Opened S.Row)) → AreCalls self.old calls →
+            IfOk result (λ lost. lost.items ≡ reverse (requests_of calls)) }
         ensures none { OnOk result (AreCalls self.new []) }
         ensures unchanged { OnErr result (self.new ≡ self.old) }
         ensures want { OnlyWant result }
@@ -115,7 +122,8 @@ impl<S: Schema> Calls<S> {
         phase: u32,
         row: &Option<S::Row>,
     ) -> Result<Option<PhaseEnd<S::Row>>, Memory>
-        ensures hears { IfOk result (λ given. HearsRow S.Row.join self.old self.new from request phase row.now given) }
+        ensures hears { IfOk result
+            (λ given. HearsRow S.Row.join self.old self.new from request phase row.now given) }
         ensures want { OnlyWant result }
     {
         let Some(call) = self.by_number.get_mut(&Reverse(request)) else {
@@ -136,7 +144,8 @@ impl<S: Schema> Calls<S> {
         rows: &[S::Row],
         more: bool,
     ) -> Result<Option<PhaseEnd<S::Row>>, Memory>
-        ensures hears { IfOk result (λ given. HearsRows S.Row.join S.words self.old self.new from request phase rows.now more given) }
+        ensures hears { IfOk result
+            (λ given. HearsRows S.Row.join S.words self.old self.new from request phase rows.now more given) }
         ensures want { OnlyWant result }
     {
         let alloc = self.alloc;
@@ -177,7 +186,8 @@ impl<S: Schema> Calls<S> {
         phase: u32,
         bytes: &Block,
     ) -> Result<Option<PhaseEnd<S::Row>>, Memory>
-        ensures hears { IfOk result (λ given. HearsBlock self.old self.new request phase bytes.now given) }
+        ensures hears { IfOk result
+            (λ given. HearsBlock self.old self.new request phase bytes.now given) }
         ensures want { OnlyWant result }
     {
         let Some(call) = self.by_number.get_mut(&Reverse(request)) else {

@@ -60,7 +60,8 @@ impl Collector {
         gc: &mut Collections,
         out: &mut Vec<Envelope<S::Row>>,
     ) -> Result<u64, Memory>
-        ensures collects { IfOk result (λ begun. Collects S.Row.join S.words self contents.now gc.old gc.new out.old.items out.new.items begun) }
+        ensures collects { IfOk result
+            (λ begun. Collects S.Row.join S.words self contents.now gc.old gc.new out.old.items out.new.items begun) }
         ensures causes { WantOr result (CannotCollect S.Row.join S.words self contents.now gc.old) }
     {
         let before = gc.begun();
@@ -78,8 +79,10 @@ impl Collector {
         keys: &BTreeSet<Vec<u8>>,
         out: &mut Vec<Envelope<S::Row>>,
     ) -> Result<(), Memory>
-        ensures about { OnOk result (AboutKeys S.Row.join S.words self contents.now.table keys.now.keys gc.old gc.new out.old.items out.new.items) }
-        ensures causes { WantOr result (CannotAboutKeys S.Row.join S.words self contents.now.table keys.now.keys gc.old) }
+        ensures about { OnOk result
+            (AboutKeys S.Row.join S.words self contents.now.table keys.now.keys gc.old gc.new out.old.items out.new.items) }
+        ensures causes { WantOr result
+            (CannotAboutKeys S.Row.join S.words self contents.now.table keys.now.keys gc.old) }
     {
         for key in keys {
             self.about_key(contents, gc, key.as_slice(), out)?;
@@ -95,7 +98,8 @@ impl Collector {
         ended: &Collection,
         out: &mut Vec<Envelope<S::Row>>,
     ) -> Result<Option<(u64, u64)>, Memory>
-        ensures ends { IfOk result (λ dropped. Ends S.Row.join S.words self ended.now contents.old contents.new out.old.items out.new.items dropped) }
+        ensures ends { IfOk result
+            (λ dropped. Ends S.Row.join S.words self ended.now contents.old contents.new out.old.items out.new.items dropped) }
         ensures want { OnlyWant result }
     {
         if !self.still_stands(contents, ended)? {
@@ -118,7 +122,10 @@ impl Collector {
         contents: &Contents<S>,
         ended: &Collection,
     ) -> Result<bool, Memory>
-        ensures is { IfOk result (λ stands. stands ≡ ((self.newest == ended.now.newest) && has_bytes S.Row.join S.words ended.now.row (find_row S.words 1 ended.now.key contents.now.table))) }
+        ensures is { IfOk result
+            (λ stands. stands ≡ ((self.newest == ended.now.newest) &&
+            has_bytes S.Row.join S.words ended.now.row
+            (find_row S.words 1 ended.now.key contents.now.table))) }
         ensures want { OnlyWant result }
     {
         let same = contents.has_bytes(ended.key.as_slice(), ended.row.as_slice())?;
@@ -141,7 +148,8 @@ impl Collector {
 
     // The numbers of the collections whose row is gone.
     fn gone<S: Schema>(self, contents: &Contents<S>, gc: &Collections) -> Result<Vec<u64>, Memory>
-        ensures are { IfOk result (λ gone. gone.items ≡ gone_from S.Row.join S.words contents.now gc.now.collections) }
+        ensures are { IfOk result
+            (λ gone. gone.items ≡ gone_from S.Row.join S.words contents.now gc.now.collections) }
         ensures numbered { IsNumbered gc.now.begun gc.now.collections }
         ensures want { OnlyWant result }
     {
@@ -159,7 +167,8 @@ impl Collector {
         contents: &Contents<S>,
         gc: &Collections,
     ) -> Result<BTreeSet<Vec<u8>>, Memory>
-        ensures are { IfOk result (λ keys. Looks S.Row.join S.words self.now contents.now gc.now keys) }
+        ensures are { IfOk result
+            (λ keys. Looks S.Row.join S.words self.now contents.now gc.now keys) }
         ensures numbered { IsNumbered gc.now.begun gc.now.collections }
         ensures want { OnlyWant result }
     {
@@ -172,7 +181,9 @@ impl Collector {
 
     // The keys of the tombstones that are old enough.
     fn aged<S: Schema>(self, contents: &Contents<S>) -> Result<BTreeSet<Vec<u8>>, Memory>
-        ensures are { IfOk result (λ keys. (key : List ℕ) → has_key key keys.keys ≡ is_aged self.now (marker_of S.words (find_row S.words 1 key contents.now.table))) }
+        ensures are { IfOk result (λ keys. (key : List ℕ) →
+            has_key key keys.keys ≡ is_aged self.now
+            (marker_of S.words (find_row S.words 1 key contents.now.table))) }
         ensures want { OnlyWant result }
     {
         let mut keys = BTreeSet::new(self.alloc);
@@ -185,7 +196,8 @@ impl Collector {
 
     // The timestamp that a delete marker has at most to be old enough.
     fn limit(self) -> Option<u64>
-        ensures some { IfSome result (λ limit. (collection_age ≤ self.now) × (limit ≡ self.now - collection_age)) }
+        ensures some { IfSome result (λ limit. (collection_age ≤ self.now) ×
+            (limit ≡ self.now - collection_age)) }
         ensures none { IfNone result (self.now < collection_age) }
     {
         self.now.checked_sub(AGE)
@@ -199,8 +211,11 @@ impl Collector {
         key: &[u8],
         out: &mut Vec<Envelope<S::Row>>,
     ) -> Result<(), Memory>
-        ensures about { OnOk result (AboutAt S.Row.join S.words self (find_row S.words 1 key.now contents.now.table) gc.old gc.new out.old.items out.new.items) }
-        ensures causes { WantOr result (CannotAboutAt S.Row.join S.words self (find_row S.words 1 key.now contents.now.table) gc.old) }
+        ensures about { OnOk result
+            (AboutAt S.Row.join S.words self
+            (find_row S.words 1 key.now contents.now.table) gc.old gc.new out.old.items out.new.items) }
+        ensures causes { WantOr result (CannotAboutAt S.Row.join S.words self
+            (find_row S.words 1 key.now contents.now.table) gc.old) }
     {
         match contents.table.get(1, key) {
             Some(row) => self.about::<S>(gc, row, out),
@@ -215,7 +230,8 @@ impl Collector {
         row: &S::Row,
         out: &mut Vec<Envelope<S::Row>>,
     ) -> Result<(), Memory>
-        ensures about { OnOk result (Abouts S.Row.join S.words self row.now gc.old gc.new out.old.items out.new.items) }
+        ensures about { OnOk result
+            (Abouts S.Row.join S.words self row.now gc.old gc.new out.old.items out.new.items) }
         ensures causes { WantOr result (CannotAbout S.Row.join S.words self row.now gc.old) }
     {
         let bytes = S::row_bytes(self.alloc, row)?;
@@ -266,7 +282,8 @@ impl Collector {
         row: Bytes,
         out: &mut Vec<Envelope<R>>,
     ) -> Result<(), Memory>
-        ensures begins { OnOk result (Begins self key row gc.old gc.new out.old.items out.new.items) }
+        ensures begins { OnOk result
+            (Begins self key row gc.old gc.new out.old.items out.new.items) }
         ensures causes { WantOr result (2 ^ 64 ≤ gc.old.begun + 1) }
     {
         let sent = row.copy()?;
@@ -286,7 +303,8 @@ impl Collector {
         out: &mut Vec<Envelope<S::Row>>,
     ) -> Result<(), Memory>
         requires there { IsOpen number round ready row gc.old }
-        ensures goes_on { OnOk result (GoesOn S.Row.join S.words self number gc.old gc.new out.old.items out.new.items) }
+        ensures goes_on { OnOk result
+            (GoesOn S.Row.join S.words self number gc.old gc.new out.old.items out.new.items) }
         ensures want { OnlyWant result }
     {
         let Some(ready) = ready else {
@@ -314,7 +332,8 @@ impl Collector {
 
 // Adds the keys of the open collections.
 fn add_open(alloc: Global, gc: &Collections, keys: &mut BTreeSet<Vec<u8>>) -> Result<(), Memory>
-    ensures adds { OnOk result ((key : List ℕ) → has_key key keys.new.keys ≡ (has_key key keys.old.keys || is_some (keyed key gc.now))) }
+    ensures adds { OnOk result ((key : List ℕ) →
+        has_key key keys.new.keys ≡ (has_key key keys.old.keys || is_some (keyed key gc.now))) }
     ensures numbered { IsNumbered gc.now.begun gc.now.collections }
     ensures want { OnlyWant result }
 {
@@ -332,7 +351,8 @@ fn add_gone<S: Schema>(
     collection: &Collection,
     gone: &mut Vec<u64>,
 ) -> Result<(), Memory>
-    ensures adds { OnOk result (gone.new.items ≡ gone.old.items ++ gone_from S.Row.join S.words contents.now (collection.now ∷ [])) }
+    ensures adds { OnOk result (gone.new.items ≡ gone.old.items ++
+        gone_from S.Row.join S.words contents.now (collection.now ∷ [])) }
     ensures want { OnlyWant result }
 {
     if contents.table.get(1, collection.key.as_slice()).is_some() {
@@ -372,7 +392,8 @@ fn ask<R: Drop>(
     round: u8,
     row: Bytes,
 ) -> Result<(), Memory>
-    ensures asks { OnOk result (Posts node out.old.items out.new.items (to_each nodes.now (Tomb collection round row))) }
+    ensures asks { OnOk result (Posts node out.old.items out.new.items
+        (to_each nodes.now (Tomb collection round row))) }
     ensures want { OnlyWant result }
 {
     let message = Message::Tomb {

@@ -59,8 +59,10 @@ impl<S: Schema> Contents<S> {
     ) -> Result<(), Memory>
         requires proper { IsTrue (S.words.is_proper row) }
         requires beside { IsBeside (blake2b 32) (S.words.live_block row) given.now }
-        ensures accepts { OnOk result (Turns S.Row.join S.words self.old self.new (λ x. accepts S.Row.join S.words now x row given.now)) }
-        ensures causes { WantOr result (Exceeds S.Row.join S.words self.old (λ x. accepts S.Row.join S.words now x row given.now)) }
+        ensures accepts { OnOk result (Turns S.Row.join S.words self.old self.new
+            (λ x. accepts S.Row.join S.words now x row given.now)) }
+        ensures causes { WantOr result (Exceeds S.Row.join S.words self.old
+            (λ x. accepts S.Row.join S.words now x row given.now)) }
     {
         let needed = S::live_block(&row);
         let taken = self.table.take_in(row)?;
@@ -106,7 +108,8 @@ impl<S: Schema> Contents<S> {
 
     /// Deletes the blocks that have had no live reference for long enough; how many these are.
     pub fn delete_due(&mut self, now: u64) -> Result<u64, Memory>
-        ensures deletes { OnOk result (Turns S.Row.join S.words self.old self.new (λ x. without_due S.Row.join S.words now x)) }
+        ensures deletes { OnOk result (Turns S.Row.join S.words self.old self.new
+            (λ x. without_due S.Row.join S.words now x)) }
         ensures count { IfOk result (λ count. CountsDue S.Row.join S.words self.old now count) }
         ensures want { OnlyWant result }
     {
@@ -118,7 +121,8 @@ impl<S: Schema> Contents<S> {
 
     // The partition of the row that waits under this number, where there is one.
     fn waiting(&self, number: u64) -> Option<u8>
-        ensures is { (x : Node S.Row Layout) → IsContents S.Row.join S.words self.now x → result ≡ option_map (λ m. partition_of S.words m.row) (item_at x.items number) }
+        ensures is { (x : Node S.Row Layout) → IsContents S.Row.join S.words self.now x →
+            result ≡ option_map (λ m. partition_of S.words m.row) (item_at x.items number) }
         ensures numbered { IsNumbered self.now.outbox.pushed self.now.outbox.items }
     {
         let items = self.outbox.items();
@@ -130,7 +134,8 @@ impl<S: Schema> Contents<S> {
 
     /// A node confirms a row that waits. It waits no longer when two nodes of each of its stored sets have.
     pub fn confirm(&mut self, view: &View, number: u64, node: u8) -> Result<(), Memory>
-        ensures confirms { OnOk result (Confirms S.Row.join S.words self.old self.new view.now number node) }
+        ensures confirms { OnOk result
+            (Confirms S.Row.join S.words self.old self.new view.now number node) }
         ensures want { OnlyWant result }
     {
         let Some(p) = self.waiting(number) else {
@@ -144,7 +149,8 @@ impl<S: Schema> Contents<S> {
 
     /// Forgets who confirmed the rows that wait.
     pub fn forget_confirmations(&mut self)
-        ensures { Turns S.Row.join S.words self.old self.new (λ x. record x { items = map unconfirmed x.items }) }
+        ensures { Turns S.Row.join S.words self.old self.new
+            (λ x. record x { items = map unconfirmed x.items }) }
     {
         self.outbox.forget_confirms();
     }
@@ -156,7 +162,8 @@ impl<S: Schema> Contents<S> {
         node: u8,
         out: &mut Vec<Envelope<S::Row>>,
     ) -> Result<u64, Memory>
-        ensures sent { OnOk result (SendsItems S.Row.join S.words self.now view.now node out.old.items out.new.items) }
+        ensures sent { OnOk result
+            (SendsItems S.Row.join S.words self.now view.now node out.old.items out.new.items) }
         ensures count { IfOk result (λ count. count ≡ length self.now.outbox.items) }
         ensures want { OnlyWant result }
     {

@@ -28,7 +28,8 @@ pub fn send<R: Drop>(
     to: u8,
     message: Message<R>,
 ) -> Result<(), Memory>
-    ensures sent { OnOk result (Posts from out.old.items out.new.items (to_each (to ∷ []) message)) }
+    ensures sent { OnOk result (Posts from out.old.items out.new.items
+        (to_each (to ∷ []) message)) }
     ensures want { OnlyWant result }
 {
     let message = Shared::new(*out.allocator(), message)?;
@@ -42,7 +43,8 @@ fn post<R: Drop>(
     to: u8,
     message: Shared<Message<R>>,
 ) -> Result<(), Memory>
-    ensures sent { OnOk result (Posts from out.old.items out.new.items (to_each (to ∷ []) message)) }
+    ensures sent { OnOk result (Posts from out.old.items out.new.items
+        (to_each (to ∷ []) message)) }
     ensures want { OnlyWant result }
 {
     out.push(Envelope {
@@ -60,7 +62,8 @@ pub fn send_each<R: Drop>(
     nodes: &[u8],
     message: Message<R>,
 ) -> Result<(), Memory>
-    ensures sent { OnOk result (Posts from out.old.items out.new.items (to_each nodes.now message)) }
+    ensures sent { OnOk result (Posts from out.old.items out.new.items
+        (to_each nodes.now message)) }
     ensures want { OnlyWant result }
 {
     let message = Shared::new(*out.allocator(), message)?;
@@ -73,7 +76,8 @@ fn share_with<R: Drop>(
     nodes: &[u8],
     message: &Shared<Message<R>>,
 ) -> Result<(), Memory>
-    ensures sent { OnOk result (Posts from out.old.items out.new.items (to_each nodes.now message.now)) }
+    ensures sent { OnOk result (Posts from out.old.items out.new.items
+        (to_each nodes.now message.now)) }
     ensures want { OnlyWant result }
 {
     for to in nodes {

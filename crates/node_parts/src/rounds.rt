@@ -52,7 +52,9 @@ impl Moving {
         node: u8,
         begun: Vec<NodeWalk>,
     ) -> Result<Moving, Memory>
-        ensures begins { IfOk result (λ m. IsStrictlyIncreasing (map (λ part. part.0) parts.items) → IsMoving node m (begun_round number target (map part_of parts.items) node (map walk_of begun.items))) }
+        ensures begins { IfOk result (λ m. IsStrictlyIncreasing (map (λ part. part.0) parts.items) →
+            IsMoving node m (begun_round number target (map part_of parts.items) node
+            (map walk_of begun.items))) }
         ensures want { OnlyWant result }
     {
         let round = Round::new(alloc, target, parts, node)?;
@@ -67,7 +69,8 @@ impl Moving {
 
     /// A node confirms a partition.
     pub fn confirm(&mut self, p: u8, from: u8)
-        ensures { (node : ℕ) (r : Moved) → IsMoving node self.old r → IsMoving node self.new (confirmed_round r p from) }
+        ensures { (node : ℕ) (r : Moved) → IsMoving node self.old r →
+            IsMoving node self.new (confirmed_round r p from) }
     {
         self.round.confirm(p, from);
     }
@@ -81,7 +84,8 @@ impl Moving {
 
     /// Each partition that some node hasn't confirmed, with these nodes.
     pub fn open_parts(&self) -> Result<Vec<(u8, Vec<u8>)>, Memory>
-        ensures are { IfOk result (λ parts. (node : ℕ) (r : Moved) → IsMoving node self.now r → map (λ part. (part.0, part.1.items)) parts.items ≡ open_parts_of r) }
+        ensures are { IfOk result (λ parts. (node : ℕ) (r : Moved) → IsMoving node self.now r →
+            map (λ part. (part.0, part.1.items)) parts.items ≡ open_parts_of r) }
         ensures want { OnlyWant result }
     {
         self.round.open_parts()
@@ -89,7 +93,9 @@ impl Moving {
 
     /// These walks begin, in the place of those over the same partition with the same node.
     pub fn begin(&mut self, begun: Vec<NodeWalk>) -> Result<(), Memory>
-        ensures begins { OnOk result ((node : ℕ) (r : Moved) → IsMoving node self.old r → IsMoving node self.new (record r { walks = renewed (map walk_of begun.items) r.walks })) }
+        ensures begins { OnOk result ((node : ℕ) (r : Moved) → IsMoving node self.old r →
+            IsMoving node self.new
+            (record r { walks = renewed (map walk_of begun.items) r.walks })) }
         ensures want { OnlyWant result }
     {
         self.walks.begin(begun)?;
@@ -98,7 +104,8 @@ impl Moving {
 
     // These nodes confirm a partition.
     fn confirm_all(&mut self, p: u8, nodes: &[u8])
-        ensures { (node : ℕ) (r : Moved) → IsMoving node self.old r → IsMoving node self.new (confirmed_all r p nodes.now) }
+        ensures { (node : ℕ) (r : Moved) → IsMoving node self.old r →
+            IsMoving node self.new (confirmed_all r p nodes.now) }
     {
         for node in nodes {
             self.confirm(p, *node);
@@ -111,7 +118,9 @@ impl Moving {
         contents: &Contents<S>,
         parts: &mut Vec<(u8, Vec<u8>)>,
     )
-        ensures { Empties S.Row.join S.words contents.now self.old self.new (map (λ part. (part.0, part.1.items)) parts.old.items) (map (λ part. (part.0, part.1.items)) parts.new.items) }
+        ensures { Empties S.Row.join S.words contents.now self.old self.new (map
+            (λ part. (part.0, part.1.items)) parts.old.items) (map
+            (λ part. (part.0, part.1.items)) parts.new.items) }
     {
         for (p, nodes) in parts.as_slice() {
             if !contents.has_rows(*p) {
@@ -123,7 +132,8 @@ impl Moving {
 
     /// What stays of the round when it is complete.
     pub fn into_lasting(self) -> Mending
-        ensures { (node : ℕ) (r : Moved) → IsMoving node self r → IsMended result (record { number = r.number; walks = r.walks }) }
+        ensures { (node : ℕ) (r : Moved) → IsMoving node self r →
+            IsMended result (record { number = r.number; walks = r.walks }) }
     {
         Mending {
             number: self.number,
@@ -142,7 +152,8 @@ impl Moving {
 impl Mending {
     /// A repair with these walks.
     pub fn new(alloc: Global, number: u64, begun: Vec<NodeWalk>) -> Result<Mending, Memory>
-        ensures is { IfOk result (λ m. IsMended m (record { number = number; walks = map walk_of begun.items })) }
+        ensures is { IfOk result
+            (λ m. IsMended m (record { number = number; walks = map walk_of begun.items })) }
         ensures want { OnlyWant result }
     {
         let mut walks = Walks::new(alloc);
@@ -176,7 +187,8 @@ impl Rounds {
 
     /// A round to a version that is at most the oldest stored one closes.
     pub fn close_below(&mut self, oldest: u32)
-        ensures { (node : ℕ) (round : Option Moved) (rounds : ℕ) (mending lasting : Option Mended) → AreRounds node self.old round rounds mending lasting →
+        ensures { (node : ℕ) (round : Option Moved) (rounds : ℕ) (mending lasting : Option Mended) →
+            AreRounds node self.old round rounds mending lasting →
             AreRounds node self.new (still oldest round) rounds mending lasting }
     {
         let is_over = match &self.round {
@@ -190,7 +202,9 @@ impl Rounds {
 
     /// Forgets the round and all walks.
     pub fn forget(&mut self)
-        ensures { (node : ℕ) (round : Option Moved) (rounds : ℕ) (mending lasting : Option Mended) → AreRounds node self.old round rounds mending lasting → AreRounds node self.new None rounds None None }
+        ensures { (node : ℕ) (round : Option Moved) (rounds : ℕ) (mending lasting : Option Mended) →
+            AreRounds node self.old round rounds mending lasting →
+            AreRounds node self.new None rounds None None }
     {
         self.round = None;
         self.mending = None;

@@ -77,7 +77,8 @@ impl Sender {
         here: &Layout,
         there: &Layout,
     ) -> Result<Vec<(u8, [u8; 3])>, Memory>
-        ensures are { IfOk result (λ parts. AreMoved S.Row.join S.words self contents.now here.now there.now parts.items) }
+        ensures are { IfOk result
+            (λ parts. AreMoved S.Row.join S.words self contents.now here.now there.now parts.items) }
         ensures want { OnlyWant result }
     {
         let mut parts = Vec::new(self.alloc);
@@ -92,7 +93,9 @@ impl Sender {
 
     /// These partitions with the other nodes of their sets.
     pub fn others(self, parts: &[(u8, [u8; 3])]) -> Result<Vec<(u8, Vec<u8>)>, Memory>
-        ensures are { IfOk result (λ places. map (λ place. (place.0, place.1.items)) places.items ≡ with_others self.node parts.now) }
+        ensures are { IfOk result
+            (λ places. map (λ place. (place.0, place.1.items)) places.items ≡
+            with_others self.node parts.now) }
         ensures want { OnlyWant result }
     {
         let mut places = Vec::new(self.alloc);
@@ -112,7 +115,9 @@ impl Sender {
         prefix: &Bytes,
         out: &mut Vec<Envelope<S::Row>>,
     ) -> Result<(), Memory>
-        ensures asks { OnOk result (Asks S.Row.join S.words self contents.old out.old.items out.new.items to p table (prefix.now ∷ [])) }
+        ensures asks { OnOk result
+            (Asks S.Row.join S.words self contents.old out.old.items out.new.items to p table
+            (prefix.now ∷ [])) }
         ensures unchanged { OnOk result (contents.new ≡ contents.old) }
         ensures causes { WantOr result (LacksSpelling S.Row.join S.words contents.old p) }
     {
@@ -140,7 +145,8 @@ impl Sender {
         prefixes: &[Bytes],
         out: &mut Vec<Envelope<S::Row>>,
     ) -> Result<(), Memory>
-        ensures asks { OnOk result (Asks S.Row.join S.words self contents.old out.old.items out.new.items to p table prefixes.now) }
+        ensures asks { OnOk result
+            (Asks S.Row.join S.words self contents.old out.old.items out.new.items to p table prefixes.now) }
         ensures unchanged { OnOk result (contents.new ≡ contents.old) }
         ensures causes { WantOr result (LacksSpelling S.Row.join S.words contents.old p) }
     {
@@ -157,9 +163,12 @@ impl Sender {
         walk: &NodeWalk,
         out: &mut Vec<Envelope<S::Row>>,
     ) -> Result<(), Memory>
-        ensures asks { OnOk result (Sent S.Row.join S.words self contents.old out.old.items out.new.items (λ x. first_asks S.Row.join S.words layouts x self.round (walk_of walk.now))) }
+        ensures asks { OnOk result
+            (Sent S.Row.join S.words self contents.old out.old.items out.new.items
+            (λ x. first_asks S.Row.join S.words layouts x self.round (walk_of walk.now))) }
         ensures unchanged { OnOk result (contents.new ≡ contents.old) }
-        ensures causes { WantOr result (LacksSpelling S.Row.join S.words contents.old walk.now.state.partition) }
+        ensures causes { WantOr result
+            (LacksSpelling S.Row.join S.words contents.old walk.now.state.partition) }
     {
         let p = walk.state.partition();
         for (table, prefix) in walk.state.open() {
@@ -177,7 +186,8 @@ impl Sender {
         begun: &mut Vec<NodeWalk>,
         out: &mut Vec<Envelope<S::Row>>,
     ) -> Result<(), Memory>
-        ensures starts { OnOk result (Starts S.Row.join S.words self contents.old p nodes.now out.old.items out.new.items begun.old.items begun.new.items) }
+        ensures starts { OnOk result
+            (Starts S.Row.join S.words self contents.old p nodes.now out.old.items out.new.items begun.old.items begun.new.items) }
         ensures unchanged { OnOk result (contents.new ≡ contents.old) }
         ensures spelled { OnOk result (IsSpelled S.Row.join S.words contents.old p) }
         ensures causes { WantOr result (LacksSpelling S.Row.join S.words contents.old p) }
@@ -200,9 +210,13 @@ impl Sender {
         places: &[(u8, Vec<u8>)],
         out: &mut Vec<Envelope<S::Row>>,
     ) -> Result<Vec<NodeWalk>, Memory>
-        ensures starts { IfOk result (λ begun. StartsAll S.Row.join S.words self contents.old (map (λ place. (place.0, place.1.items)) places.now) out.old.items out.new.items begun.items) }
+        ensures starts { IfOk result
+            (λ begun. StartsAll S.Row.join S.words self contents.old (map
+            (λ place.
+            (place.0, place.1.items)) places.now) out.old.items out.new.items begun.items) }
         ensures unchanged { OnOk result (contents.new ≡ contents.old) }
-        ensures causes { WantOr result (CannotStart S.Row.join S.words contents.old (map (λ place. (place.0, place.1.items)) places.now)) }
+        ensures causes { WantOr result (CannotStart S.Row.join S.words contents.old (map
+            (λ place. (place.0, place.1.items)) places.now)) }
     {
         let mut begun = Vec::new(self.alloc);
         for (p, nodes) in places {
@@ -221,7 +235,8 @@ impl Sender {
         noted: &[(u8, Hash32)],
         out: &mut Vec<Envelope<S::Row>>,
     ) -> Result<(), Memory>
-        ensures pushes { OnOk result (Pushes S.Row.join S.words self contents.now out.old.items out.new.items to p noted.now) }
+        ensures pushes { OnOk result
+            (Pushes S.Row.join S.words self contents.now out.old.items out.new.items to p noted.now) }
         ensures causes { WantOr result (LacksSpelling S.Row.join S.words contents.now p) }
     {
         let rows = contents.table.noted_rows(p, noted)?;
@@ -249,9 +264,11 @@ impl Sender {
         answer: Answer<'_>,
         out: &mut Vec<Envelope<S::Row>>,
     ) -> Result<bool, Memory>
-        ensures walks { IfOk result (λ is_same. WalksOn S.Row.join S.words self contents.old walks.old walks.new answer.entry out.old.items out.new.items is_same) }
+        ensures walks { IfOk result
+            (λ is_same. WalksOn S.Row.join S.words self contents.old walks.old walks.new answer.entry out.old.items out.new.items is_same) }
         ensures unchanged { OnOk result (contents.new ≡ contents.old) }
-        ensures causes { WantOr result (CannotWalk S.Row.join S.words self contents.old walks.old answer.entry) }
+        ensures causes { WantOr result
+            (CannotWalk S.Row.join S.words self contents.old walks.old answer.entry) }
     {
         let (to, p) = (answer.from, answer.p);
         match walks.take_answer(contents, answer)? {
@@ -276,9 +293,11 @@ impl Sender {
         answer: Answer<'_>,
         out: &mut Vec<Envelope<S::Row>>,
     ) -> Result<bool, Memory>
-        ensures walks { IfOk result (λ taken. WalksLate S.Row.join S.words self contents.old mending.old mending.new answer.entry out.old.items out.new.items taken) }
+        ensures walks { IfOk result
+            (λ taken. WalksLate S.Row.join S.words self contents.old mending.old mending.new answer.entry out.old.items out.new.items taken) }
         ensures unchanged { OnOk result (contents.new ≡ contents.old) }
-        ensures causes { WantOr result (CannotWalkLate S.Row.join S.words self contents.old mending.old answer.entry) }
+        ensures causes { WantOr result
+            (CannotWalkLate S.Row.join S.words self contents.old mending.old answer.entry) }
     {
         let Some(mut kept) = mending.take() else {
             return Ok(false);

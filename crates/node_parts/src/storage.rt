@@ -21,7 +21,8 @@ fn is_storage_among(roles: &[Role], node: u8) -> bool
 
 /// Whether the node is one that keeps copies in a version, where it is stored.
 pub fn keeps_copies(view: &View, version: u32, node: u8) -> bool
-    ensures { result ≡ is_among node (storage_in layouts (layout_at reading (known view.now) version)) }
+    ensures { result ≡ is_among node
+        (storage_in layouts (layout_at reading (known view.now) version)) }
 {
     match view.layout(version) {
         Some(layout) => is_storage_among(layout.roles.list.as_slice(), node),

@@ -22,8 +22,10 @@ impl<S: Schema> Contents<S> {
     /// passed over.
     pub fn merge(&mut self, view: &View, node: u8, bytes: &Bytes, now: u64) -> Result<(), Memory>
         requires needs_none { NeedsNone (blake2b 32) S.words bytes.now }
-        ensures merges { OnOk result (Merges S.Row.join S.words self.old self.new view.now node now bytes.now) }
-        ensures causes { WantOr result (CannotMerge S.Row.join S.words self.old view.now node now bytes.now) }
+        ensures merges { OnOk result
+            (Merges S.Row.join S.words self.old self.new view.now node now bytes.now) }
+        ensures causes { WantOr result
+            (CannotMerge S.Row.join S.words self.old view.now node now bytes.now) }
     {
         match S::row_from(self.alloc, bytes.as_slice()) {
             Ok(row) => self.merge_row(view, node, row, now),
@@ -36,8 +38,10 @@ impl<S: Schema> Contents<S> {
     fn merge_row(&mut self, view: &View, node: u8, row: S::Row, now: u64) -> Result<(), Memory>
         requires proper { IsTrue (S.words.is_proper row) }
         requires needs_none { S.words.live_block row ≡ None }
-        ensures merges { OnOk result (MergesRow S.Row.join S.words self.old self.new view.now node now (Some row)) }
-        ensures causes { WantOr result (CannotMergeRow S.Row.join S.words self.old view.now node now (Some row)) }
+        ensures merges { OnOk result
+            (MergesRow S.Row.join S.words self.old self.new view.now node now (Some row)) }
+        ensures causes { WantOr result (CannotMergeRow S.Row.join S.words self.old view.now node now
+            (Some row)) }
     {
         if !is_given(view, node, partition::<S>(&row)) {
             return Ok(());
@@ -48,7 +52,9 @@ impl<S: Schema> Contents<S> {
 
     /// The row of table 1 at a key has these bytes.
     pub fn has_bytes(&self, key: &[u8], bytes: &[u8]) -> Result<bool, Memory>
-        ensures is { IfOk result (λ has. has ≡ has_bytes S.Row.join S.words bytes.now (find_row S.words 1 key.now self.now.table)) }
+        ensures is { IfOk result
+            (λ has. has ≡ has_bytes S.Row.join S.words bytes.now
+            (find_row S.words 1 key.now self.now.table)) }
         ensures want { OnlyWant result }
     {
         match self.bytes_at(1, key)? {
@@ -59,7 +65,9 @@ impl<S: Schema> Contents<S> {
 
     // The bytes of the row of a table and key, where there is one that can be written.
     fn bytes_at(&self, table: u8, key: &[u8]) -> Result<Option<Bytes>, Memory>
-        ensures are { IfOk result (λ bytes. bytes ≡ option_and_then S.words.spelling (find_row S.words table key.now self.now.table)) }
+        ensures are { IfOk result
+            (λ bytes. bytes ≡ option_and_then S.words.spelling
+            (find_row S.words table key.now self.now.table)) }
         ensures want { OnlyWant result }
     {
         let Some(row) = self.table.get(table, key) else {
@@ -79,7 +87,8 @@ impl<S: Schema> Contents<S> {
         key: &[u8],
         hash: &Hash32,
     ) -> Result<Option<(u64, u64)>, Memory>
-        ensures forgets { IfOk result (λ marker. Forgets S.Row.join S.words self.old self.new table key.now hash.now marker) }
+        ensures forgets { IfOk result
+            (λ marker. Forgets S.Row.join S.words self.old self.new table key.now hash.now marker) }
         ensures want { OnlyWant result }
     {
         let Some(bytes) = self.bytes_at(table, key)? else {
@@ -95,8 +104,10 @@ impl<S: Schema> Contents<S> {
     /// Drops the row of a table and key; its delete marker, if it had nothing else. Tombstones need no block. Another row
     /// that does, whose bytes have the digest of a tombstone's, is not dropped: no memory has room for two such rows.
     pub fn drop_row(&mut self, table: u8, key: &[u8]) -> Result<Option<(u64, u64)>, Memory>
-        ensures drops { OnOk result (Turns S.Row.join S.words self.old self.new (λ x. without_row S.Row.join S.words x table key.now)) }
-        ensures marker { IfOk result (λ marker. marker ≡ marker_of S.words (find_row S.words table key.now self.old.table)) }
+        ensures drops { OnOk result (Turns S.Row.join S.words self.old self.new
+            (λ x. without_row S.Row.join S.words x table key.now)) }
+        ensures marker { IfOk result
+            (λ marker. marker ≡ marker_of S.words (find_row S.words table key.now self.old.table)) }
         ensures want { OnlyWant result }
     {
         if self.needs_block(table, key) {
@@ -110,7 +121,8 @@ impl<S: Schema> Contents<S> {
 
     // The row of a table and key needs a block.
     fn needs_block(&self, table: u8, key: &[u8]) -> bool
-        ensures { result ≡ is_some (option_and_then S.words.live_block (find_row S.words table key.now self.now.table)) }
+        ensures { result ≡ is_some (option_and_then S.words.live_block
+            (find_row S.words table key.now self.now.table)) }
     {
         match self.table.get(table, key) {
             Some(row) => S::live_block(row).is_some(),

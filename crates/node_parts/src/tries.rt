@@ -30,7 +30,8 @@ impl<S: Schema> Contents<S> {
 
     /// The tables of which there are rows of the partition.
     pub fn tables(&self, p: u8) -> Result<Vec<u8>, Memory>
-        ensures are { IfOk result (λ tables. tables.items ≡ tables_of S.words (rows_in S.words p self.now.table)) }
+        ensures are { IfOk result
+            (λ tables. tables.items ≡ tables_of S.words (rows_in S.words p self.now.table)) }
         ensures want { OnlyWant result }
     {
         let tables: Vec<u8> = [1, 2, 3]
@@ -53,7 +54,9 @@ impl<S: Schema> Contents<S> {
 
     /// The value of the rows of a table and partition at a prefix of their key hashes.
     pub fn value(&mut self, p: u8, table: u8, prefix: &[u8]) -> Result<Hash32, Memory>
-        ensures is { IfOk result (λ value. (x : Node S.Row Layout) → IsContents S.Row.join S.words self.old x → value ≡ value_here S.Row.join S.words x table p prefix.now) }
+        ensures is { IfOk result (λ value. (x : Node S.Row Layout) →
+            IsContents S.Row.join S.words self.old x →
+            value ≡ value_here S.Row.join S.words x table p prefix.now) }
         ensures unchanged { OnOk result (self.new ≡ self.old) }
         ensures spelled { OnOk result (IsSpelled S.Row.join S.words self.old p) }
         ensures causes { WantOr result (LacksSpelling S.Row.join S.words self.old p) }
@@ -64,7 +67,9 @@ impl<S: Schema> Contents<S> {
 
     // Each next byte of those key hashes, with the value there.
     fn children(&mut self, p: u8, table: u8, prefix: &[u8]) -> Result<List<(u8, Hash32)>, Memory>
-        ensures are { IfOk result (λ children. (x : Node S.Row Layout) → IsContents S.Row.join S.words self.old x → children ≡ children_here S.Row.join S.words x table p prefix.now) }
+        ensures are { IfOk result (λ children. (x : Node S.Row Layout) →
+            IsContents S.Row.join S.words self.old x →
+            children ≡ children_here S.Row.join S.words x table p prefix.now) }
         ensures unchanged { OnOk result (self.new ≡ self.old) }
         ensures causes { WantOr result (LacksSpelling S.Row.join S.words self.old p) }
     {
@@ -81,7 +86,9 @@ impl<S: Schema> Contents<S> {
         prefix: &Bytes,
         hash: &Hash32,
     ) -> Result<Message<S::Row>, Memory>
-        ensures is { IfOk result (λ message. (x : Node S.Row Layout) → IsContents S.Row.join S.words self.old x → message ≡ compared S.Row.join S.words layouts x tag p table prefix.now hash.now) }
+        ensures is { IfOk result (λ message. (x : Node S.Row Layout) →
+            IsContents S.Row.join S.words self.old x →
+            message ≡ compared S.Row.join S.words layouts x tag p table prefix.now hash.now) }
         ensures unchanged { OnOk result (self.new ≡ self.old) }
         ensures spelled { OnOk result (IsSpelled S.Row.join S.words self.old p) }
         ensures causes { WantOr result (LacksSpelling S.Row.join S.words self.old p) }
@@ -103,10 +110,12 @@ impl<S: Schema> Contents<S> {
     /// A walk goes on after an answer that it awaits.
     pub fn take_answer(&mut self, walk: &mut Walk, answer: Answer<'_>) -> Result<WalkEnd, Memory>
         requires awaits { is_open answer.table answer.prefix.now walk.old.prefixes ≡ true }
-        ensures goes_on { IfOk result (λ end. GoesOn S.Row.join S.words self.old answer.entry walk.old walk.new end) }
+        ensures goes_on { IfOk result
+            (λ end. GoesOn S.Row.join S.words self.old answer.entry walk.old walk.new end) }
         ensures unchanged { OnOk result (self.new ≡ self.old) }
         ensures spelled { OnOk result (IsSpelled S.Row.join S.words self.old walk.old.partition) }
-        ensures causes { WantOr result (LacksSpelling S.Row.join S.words self.old walk.old.partition) }
+        ensures causes { WantOr result
+            (LacksSpelling S.Row.join S.words self.old walk.old.partition) }
     {
         self.settle(walk.partition())?;
         match answer.children {

@@ -48,7 +48,8 @@ impl Walks {
 
     /// These walks begin, in the place of those over the same partition with the same node.
     pub fn begin(&mut self, begun: Vec<NodeWalk>) -> Result<(), Memory>
-        ensures begins { OnOk result ((walks : List Opened) → AreWalks self.old walks → AreWalks self.new (renewed (map walk_of begun.items) walks)) }
+        ensures begins { OnOk result ((walks : List Opened) → AreWalks self.old walks →
+            AreWalks self.new (renewed (map walk_of begun.items) walks)) }
         ensures want { OnlyWant result }
     {
         let mut left = begun;
@@ -65,9 +66,11 @@ impl Walks {
         contents: &mut Contents<S>,
         answer: Answer<'_>,
     ) -> Result<Option<WalkEnd>, Memory>
-        ensures takes { IfOk result (λ end. TakesAnswer S.Row.join S.words contents.old self.old self.new answer.entry end) }
+        ensures takes { IfOk result
+            (λ end. TakesAnswer S.Row.join S.words contents.old self.old self.new answer.entry end) }
         ensures unchanged { OnOk result (contents.new ≡ contents.old) }
-        ensures causes { WantOr result (CannotTake S.Row.join S.words contents.old self.old answer.entry) }
+        ensures causes { WantOr result
+            (CannotTake S.Row.join S.words contents.old self.old answer.entry) }
     {
         let place = (answer.p, answer.from);
         let Some(walk) = self.by_place.get_mut(&place) else {

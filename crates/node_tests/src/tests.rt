@@ -129,7 +129,8 @@ fn scan(alloc: Global) -> Phase<AnyRow>
 
 // The block is the one that is needed, or none is there where none is needed.
 fn is_beside(needed: &Option<Hash32>, given: &Option<Block>) -> bool
-    ensures { IsTrue result → IsBeside (blake2b 32) (option_map (λ hash. hash.0) needed.now) given.now }
+    ensures { IsTrue result →
+        IsBeside (blake2b 32) (option_map (λ hash. hash.0) needed.now) given.now }
 {
     match (needed, given) {
         (None, None) => true,
@@ -149,7 +150,8 @@ fn comes_with_block(alloc: Global, stored: &(Bytes, Option<Block>)) -> Result<bo
 }
 
 fn come_with_blocks(alloc: Global, rows: &[(Bytes, Option<Block>)]) -> Result<bool, Memory>
-    ensures { IfOk result (λ are. IsTrue are → AllByRecursion (IsRowWithBlock (blake2b 32) words) rows.now) }
+    ensures { IfOk result (λ are. IsTrue are →
+        AllByRecursion (IsRowWithBlock (blake2b 32) words) rows.now) }
 {
     for stored in rows {
         if !comes_with_block(alloc, stored)? {
@@ -171,7 +173,8 @@ fn needs_none(alloc: Global, row: &Bytes) -> Result<bool, Memory>
 }
 
 fn carries_blocks(alloc: Global, packet: &Packet<AnyRow>) -> Result<bool, Memory>
-    ensures { IfOk result (λ is. IsTrue is → PacketCarriesBlocks (blake2b 32) words (told packet.now)) }
+    ensures { IfOk result (λ is. IsTrue is →
+        PacketCarriesBlocks (blake2b 32) words (told packet.now)) }
 {
     match packet {
         Packet::Msg(message) => match message.get() {

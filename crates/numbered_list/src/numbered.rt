@@ -16,7 +16,8 @@ pub fn place_of<T: Numbered>(items: &[T], number: u64) -> Option<usize>
     requires { Rises 0 (map T.number items.now) }
     ensures in_range { IfSome result (λ i. i < length items.now) }
     ensures found { IfSome result (λ i. IfSome (slice_get items.now i) (λ x. T.number x ≡ number)) }
-    ensures absent { IfNone result (AllByRecursion (λ x. (T.number x == number) ≡ false) items.now) }
+    ensures absent { IfNone result (AllByRecursion
+        (λ x. (T.number x == number) ≡ false) items.now) }
 {
     items
         .binary_search_by(|item| item.number().cmp(&number))

@@ -34,7 +34,8 @@ use crdt_rows::{
 /// stored: each version of an object row, in the state that the row says; each block of a version row, at its place. And
 /// the version of a deleted version row or of a deleted reference is gone.
 pub fn rows_show_what_was_stored()
-    ensures { (stored : List AnyRow) (row : AnyRow) → All (λ r. deletes_nothing r ≡ true) stored → ComesFrom any_join words stored row → Shows stored row }
+    ensures { (stored : List AnyRow) (row : AnyRow) → All (λ r. deletes_nothing r ≡ true) stored →
+        ComesFrom any_join words stored row → Shows stored row }
 {
     object_rows_join_as_facts();
     version_rows_join_as_facts();
@@ -44,14 +45,16 @@ pub fn rows_show_what_was_stored()
 /// Where stored rows speak under each identifier of one version of one bucket and key alone, and the identifier of a version
 /// is gone, a newer version of its bucket and key was stored complete, or the version itself was stored aborted.
 pub fn gone_versions_were_overwritten()
-    ensures { (stored : List AnyRow) (draw : ℕ → Option ((Hash32 × List ℕ) × Version)) → AreDrawn stored draw →
+    ensures { (stored : List AnyRow) (draw : ℕ → Option ((Hash32 × List ℕ) × Version)) →
+        AreDrawn stored draw →
         (id : ℕ) (key : Hash32 × List ℕ) (v : Version) → draw id ≡ Option.Some (key, v) → IsGone stored id → IsOverwritten stored key v ⊎ WasStored stored key v Aborted }
 {}
 
 /// A version row that is at least another one of the version, and is not deleted, has a block at each place where that one
 /// has one, and none below it.
 pub fn version_rows_keep_their_blocks()
-    ensures { (r v : VersionRow) → v.id ≡ r.id → AtMost version_row_join r v → is_deleted v ≡ false → (p : Part) (x : BlockRef) → HasBlock r p x → KeepsBlock v p x }
+    ensures { (r v : VersionRow) → v.id ≡ r.id → AtMost version_row_join r v →
+        is_deleted v ≡ false → (p : Part) (x : BlockRef) → HasBlock r p x → KeepsBlock v p x }
 {
     version_rows_join_as_facts();
 }

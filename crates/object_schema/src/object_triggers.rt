@@ -55,7 +55,8 @@ fn add_if_lost(
     entry: &(Version, Max<State>),
     new: &ObjectRow,
 ) -> Result<(), Memory>
-    ensures ok { OnOk result (keys_of set.new ≡ with_values version_cmp (keys_of set.old) (versions_that (is_lost new.now) (entry.now ∷ []))) }
+    ensures ok { OnOk result (keys_of set.new ≡ with_values version_cmp (keys_of set.old)
+        (versions_that (is_lost new.now) (entry.now ∷ []))) }
     ensures want { OnlyWant result }
 {
     if is_lost(new, entry) {
@@ -69,7 +70,8 @@ fn add_if_newly_aborted(
     entry: &(Version, Max<State>),
     old: &ObjectRow,
 ) -> Result<(), Memory>
-    ensures ok { OnOk result (keys_of set.new ≡ with_values version_cmp (keys_of set.old) (versions_that (is_newly_aborted old.now) (entry.now ∷ []))) }
+    ensures ok { OnOk result (keys_of set.new ≡ with_values version_cmp (keys_of set.old)
+        (versions_that (is_newly_aborted old.now) (entry.now ∷ []))) }
     ensures want { OnlyWant result }
 {
     if is_newly_aborted(old, entry) {
@@ -84,7 +86,8 @@ fn add_lost(
     entries: &[(Version, Max<State>)],
     new: &ObjectRow,
 ) -> Result<(), Memory>
-    ensures ok { OnOk result (keys_of set.new ≡ with_values version_cmp (keys_of set.old) (versions_that (is_lost new.now) entries.now)) }
+    ensures ok { OnOk result (keys_of set.new ≡ with_values version_cmp (keys_of set.old)
+        (versions_that (is_lost new.now) entries.now)) }
     ensures want { OnlyWant result }
 {
     for entry in entries {
@@ -99,7 +102,8 @@ fn add_newly_aborted(
     entries: &[(Version, Max<State>)],
     old: &ObjectRow,
 ) -> Result<(), Memory>
-    ensures ok { OnOk result (keys_of set.new ≡ with_values version_cmp (keys_of set.old) (versions_that (is_newly_aborted old.now) entries.now)) }
+    ensures ok { OnOk result (keys_of set.new ≡ with_values version_cmp (keys_of set.old)
+        (versions_that (is_newly_aborted old.now) entries.now)) }
     ensures want { OnlyWant result }
 {
     for entry in entries {
@@ -127,7 +131,8 @@ pub fn object_triggers(
     old: &ObjectRow,
     new: &ObjectRow,
 ) -> Result<Vec<AnyRow>, Memory>
-    ensures are { IfOk result (λ rows. rows.items ≡ map deleted_version (given_up old.now new.now)) }
+    ensures are { IfOk result
+        (λ rows. rows.items ≡ map deleted_version (given_up old.now new.now)) }
     ensures want { OnlyWant result }
 {
     let mut versions = Map::new(alloc);

@@ -16,7 +16,8 @@ fn hashes_of(
     alloc: Global,
     blocks: &[(Part, Max<BlockRef>)],
 ) -> Result<Map<BlockName, Bool>, Memory>
-    ensures are { IfOk result (λ set. keys_of set ≡ in_order name_cmp (map (λ e. record { 0 = e.1.0.hash }) blocks.now)) }
+    ensures are { IfOk result
+        (λ set. keys_of set ≡ in_order name_cmp (map (λ e. record { 0 = e.1.0.hash }) blocks.now)) }
     ensures want { OnlyWant result }
 {
     let mut set = Map::new(alloc);
@@ -31,7 +32,8 @@ fn deleted_references(
     id: u64,
     hashes: &[(BlockName, Bool)],
 ) -> Result<Vec<AnyRow>, Memory>
-    ensures are { IfOk result (λ rows. rows.items ≡ map (λ e. deleted_reference id e.0.0) hashes.now) }
+    ensures are { IfOk result
+        (λ rows. rows.items ≡ map (λ e. deleted_reference id e.0.0) hashes.now) }
     ensures want { OnlyWant result }
 {
     let mut rows = Vec::new(alloc);
@@ -49,7 +51,8 @@ pub fn version_triggers(
     old: &VersionRow,
     new: &VersionRow,
 ) -> Result<Vec<AnyRow>, Memory>
-    ensures are { IfOk result (λ rows. rows.items ≡ map (deleted_reference old.now.id) (released old.now new.now)) }
+    ensures are { IfOk result
+        (λ rows. rows.items ≡ map (deleted_reference old.now.id) (released old.now new.now)) }
     ensures want { OnlyWant result }
 {
     match &new.blocks {

@@ -24,7 +24,9 @@ pub fn each_phase_leaves_fewer()
 /// A window that isn't the last passes as many keys as an answer has rows: where all rows of both nodes have keys among these,
 /// at least so many fewer of them are past its end than past where it began. So a list has few windows.
 pub fn windows_pass_many_keys<R>()
-    ensures { (join : R → R → R) (s : Words R) → Laws join s → (keys : List (List ℕ)) (position prefix after : List ℕ) (limit : ℕ) (a b : List R) (end : List ℕ) →
+    ensures { (join : R → R → R) (s : Words R) → Laws join s →
+        (keys : List (List ℕ)) (position prefix after : List ℕ) (limit : ℕ) (a b : List R)
+        (end : List ℕ) →
         length position ≡ 32 → AllProper s a → AllProper s b → HasKeys s keys (rows join s a) → HasKeys s keys (rows join s b) →
         end_key position (window_between join s position prefix after limit a b).end ≡ Some end → past end keys + limit ≤ past (position ++ after) keys }
 {}

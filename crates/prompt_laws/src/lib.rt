@@ -32,7 +32,8 @@ pub fn timely_turns_are_prompt()
 /// So they are at each moment of their run, within drains too; and what they collect is collected safely, if they collect
 /// nothing, or if they are timely and no forget clashes.
 pub fn timely_turns_collect_safely()
-    ensures prompt { (turns : List Turn) → AreAllowed turns → AreLawful start turns → IsPromptIfTimely (acts_of turns) }
+    ensures prompt { (turns : List Turn) → AreAllowed turns → AreLawful start turns →
+        IsPromptIfTimely (acts_of turns) }
     ensures safely { (turns : List Turn) → AreAllowed turns → AreLawful start turns →
         CollectsInTime (acts_of turns) → CollectsSafely (acts_of turns) }
 {

@@ -19,7 +19,8 @@ ghost use Rattle.range_laws.specs.Scans.{window_between};
 /// At each key that a window names, its rows show the merge of what both nodes have there. For this an answer must
 /// be allowed one row at least: with none it has no last key, so that it would seem to have shown all.
 pub fn windows_show_all<R>()
-    ensures { (join : R → R → R) (s : Words R) → Laws join s → (position prefix after : List ℕ) (limit : ℕ) (a b : List R) →
+    ensures { (join : R → R → R) (s : Words R) → Laws join s →
+        (position prefix after : List ℕ) (limit : ℕ) (a b : List R) →
         length position ≡ 32 → 1 ≤ limit → AllProper s a → AllProper s b →
         (let w = window_between join s position prefix after limit a b in
         (key : List ℕ) → IsNamed position prefix after w.end key →
@@ -29,14 +30,21 @@ pub fn windows_show_all<R>()
 /// A window's rows are proper rows of the object table, each at a key that the window names, in ascending order of
 /// their keys.
 pub fn windows_ascend<R>()
-    ensures proper { (join : R → R → R) (s : Words R) → Laws join s → (position prefix after : List ℕ) (limit : ℕ) (a b : List R) → AllProper s a → AllProper s b →
+    ensures proper { (join : R → R → R) (s : Words R) → Laws join s →
+        (position prefix after : List ℕ) (limit : ℕ) (a b : List R) → AllProper s a →
+        AllProper s b →
         AllProper s (window_between join s position prefix after limit a b).rows }
-    ensures table { (join : R → R → R) (s : Words R) → Laws join s → (position prefix after : List ℕ) (limit : ℕ) (a b : List R) → AllProper s a → AllProper s b →
+    ensures table { (join : R → R → R) (s : Words R) → Laws join s →
+        (position prefix after : List ℕ) (limit : ℕ) (a b : List R) → AllProper s a →
+        AllProper s b →
         All (λ r. s.table r ≡ 1) (window_between join s position prefix after limit a b).rows }
-    ensures named { (join : R → R → R) (s : Words R) → Laws join s → (position prefix after : List ℕ) (limit : ℕ) (a b : List R) →
+    ensures named { (join : R → R → R) (s : Words R) → Laws join s →
+        (position prefix after : List ℕ) (limit : ℕ) (a b : List R) →
         length position ≡ 32 → AllProper s a → AllProper s b →
         (let w = window_between join s position prefix after limit a b in
         All (λ r. IsNamed position prefix after w.end (s.key r)) w.rows) }
-    ensures ascending { (join : R → R → R) (s : Words R) → Laws join s → (position prefix after : List ℕ) (limit : ℕ) (a b : List R) → AllProper s a → AllProper s b →
+    ensures ascending { (join : R → R → R) (s : Words R) → Laws join s →
+        (position prefix after : List ℕ) (limit : ℕ) (a b : List R) → AllProper s a →
+        AllProper s b →
         IsAscending s (window_between join s position prefix after limit a b).rows }
 {}

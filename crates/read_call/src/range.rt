@@ -42,9 +42,11 @@ impl<S: Schema> RangeCall<S> {
         rows: Vec<S::Row>,
         more: bool,
     ) -> Result<Option<(Vec<S::Row>, Option<Bytes>)>, Memory>
-        ensures window { (nodes : List ℕ) (answers : List (ℕ × RangeAnswer S.Row)) → RangeStands self.old nodes answers →
+        ensures window { (nodes : List ℕ) (answers : List (ℕ × RangeAnswer S.Row)) →
+            RangeStands self.old nodes answers →
             IfOk result (λ given. option_map shown given ≡ option_map (window S.Row.join S.words) (first_two_at nodes answers (node, record { rows = rows.items; more = more }))) }
-        ensures stands { (nodes : List ℕ) (answers : List (ℕ × RangeAnswer S.Row)) → RangeStands self.old nodes answers →
+        ensures stands { (nodes : List ℕ) (answers : List (ℕ × RangeAnswer S.Row)) →
+            RangeStands self.old nodes answers →
             OnOk result (RangeStands self.new nodes (answers ++ (node, record { rows = rows.items; more = more }) ∷ [])) }
         ensures unchanged { OnErr result (self.new ≡ self.old) }
         ensures want { OnlyWant result }

@@ -30,9 +30,11 @@ impl<R: Crdt> ReadCall<R> {
     /// A node answers with the row that it has, if any: the two answers merged, exactly where the node is the second
     /// one of those asked. A call that wanted memory is as it was.
     pub fn answer(&mut self, node: u8, row: Option<R>) -> Result<Option<Option<R>>, Memory>
-        ensures value { (nodes : List ℕ) (answers : List (ℕ × Option R)) → ReadStands self.old nodes answers →
+        ensures value { (nodes : List ℕ) (answers : List (ℕ × Option R)) →
+            ReadStands self.old nodes answers →
             IfOk result (λ value. value ≡ option_map (merged R.join) (first_two_at nodes answers (node, row))) }
-        ensures stands { (nodes : List ℕ) (answers : List (ℕ × Option R)) → ReadStands self.old nodes answers →
+        ensures stands { (nodes : List ℕ) (answers : List (ℕ × Option R)) →
+            ReadStands self.old nodes answers →
             OnOk result (ReadStands self.new nodes (answers ++ (node, row) ∷ [])) }
         ensures unchanged { OnErr result (self.new ≡ self.old) }
         ensures want { OnlyWant result }

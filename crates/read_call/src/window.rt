@@ -20,7 +20,8 @@ pub fn window<S: Schema>(
     first: &RangeAnswer<S::Row>,
     second: RangeAnswer<S::Row>,
 ) -> Result<(Vec<S::Row>, Option<Bytes>), Memory>
-    ensures is { IfOk result (λ given. shown given ≡ window S.Row.join S.words (first.now, second)) }
+    ensures is { IfOk result (λ given. shown given ≡ window S.Row.join S.words
+        (first.now, second)) }
     ensures want { OnlyWant result }
 {
     let end = nearer(shown_to::<S>(alloc, first)?, shown_to::<S>(alloc, &second)?);
@@ -87,7 +88,9 @@ fn both_rows<S: Schema>(
     second: Vec<S::Row>,
     end: &Option<Bytes>,
 ) -> Result<Vec<S::Row>, Memory>
-    ensures are { IfOk result (λ rows. rows.items ≡ rows_within end.now (merged key_cmp S.Row.join (keyed S.words first.now) (keyed S.words second.items))) }
+    ensures are { IfOk result
+        (λ rows. rows.items ≡ rows_within end.now
+        (merged key_cmp S.Row.join (keyed S.words first.now) (keyed S.words second.items))) }
     ensures want { OnlyWant result }
 {
     let mut waiting = second;
@@ -163,7 +166,8 @@ fn push_next<R: Crdt>(
     requires count { passed.count ≤ length first.now }
     requires met { IsTrue passed.is_met → passed.count < length first.now }
     ensures taken { IfOk result (λ taken. taken ≤ length first.now) }
-    ensures next { (s : Words R) (end : Option (List ℕ)) (key : List ℕ) (ys : List (List ℕ × R)) → is_kept ≡ is_within end key → IfOk result (λ taken.
+    ensures next { (s : Words R) (end : Option (List ℕ)) (key : List ℕ) (ys : List (List ℕ × R)) →
+        is_kept ≡ is_within end key → IfOk result (λ taken.
         rows.new.items ++ rows_within end (merged key_cmp R.join (keyed s (drop taken first.now)) ys)
         ≡ rows.old.items ++ rows_within end (from_next R.join s passed.is_met (drop passed.count first.now) key row ys)) }
     ensures want { OnlyWant result }
@@ -191,7 +195,8 @@ fn push_rest<S: Schema>(
     rest: &[S::Row],
     end: &Option<Bytes>,
 ) -> Result<(), Memory>
-    ensures rest { OnOk result (rows.new.items ≡ rows.old.items ++ rows_within end.now (keyed S.words rest.now)) }
+    ensures rest { OnOk result (rows.new.items ≡ rows.old.items ++ rows_within end.now
+        (keyed S.words rest.now)) }
     ensures want { OnlyWant result }
 {
     for row in rest {
@@ -208,7 +213,8 @@ fn push_copy<S: Schema>(
     key: &Bytes,
     row: &S::Row,
 ) -> Result<(), Memory>
-    ensures copied { OnOk result (rows.new.items ≡ rows.old.items ++ rows_within end.now ((key.now, row.now) ∷ [])) }
+    ensures copied { OnOk result (rows.new.items ≡ rows.old.items ++ rows_within end.now
+        ((key.now, row.now) ∷ [])) }
     ensures want { OnlyWant result }
 {
     if is_within(end, key) {

@@ -17,7 +17,8 @@ ghost use Rattle.receiver_laws.specs.Places.{StepNames, RolesName, LayoutNames, 
 /// The empty world names places alone, and so does each world after a step that does, where an apply is given a layout of
 /// places: whatever places are, if nodes 1 to 16, which collections ask, and the nodes of `trio` are among them.
 pub fn worlds_name_places<R, L, A, C>()
-    ensures empty { (is_place : ℕ → Bool) (k : Layouts L) → WorldNames (λ n. IsTrue (is_place n)) k (empty {R = R}) }
+    ensures empty { (is_place : ℕ → Bool) (k : Layouts L) →
+        WorldNames (λ n. IsTrue (is_place n)) k (empty {R = R}) }
     ensures stepped { (is_place : ℕ → Bool) (join : R → R → R) (s : Words R) (k : Layouts L) →
         (trio : L) (trio_roles : List Role → List Role) (w : World R L) (m : Move R L A C) →
         (let IsPlace : ℕ → Type 0 = λ n. IsTrue (is_place n) in

@@ -12,7 +12,8 @@ use text_model::schedules_are_within_limits;
 /// For each input an answer is stated: it is too long, or its text is a schedule, has a first bad line or too many events, and
 /// a replay of each schedule has a stated end.
 pub fn some_replay_is_stated()
-    ensures { (account : Account) (input : List ℕ) → (status : Status) × ((text : List ℕ) × OrTooLong (IsAnswer account) input status text) }
+    ensures { (account : Account) (input : List ℕ) → (status : Status) ×
+        ((text : List ℕ) × OrTooLong (IsAnswer account) input status text) }
 {
     every_text_reads();
     schedules_are_within_limits();

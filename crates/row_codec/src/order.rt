@@ -9,6 +9,7 @@ ghost use Rattle.row_codec.specs.Spelling.{state};
 
 /// Of two states of a version, which have bytes, the greater is the one with the greater bytes.
 pub fn states_are_ordered_as_bytes()
-    ensures { (a b : State) → IsTrue (state_in_range a) → IsTrue (is_short_state a) → IsTrue (state_in_range b) → IsTrue (is_short_state b) →
+    ensures { (a b : State) → IsTrue (state_in_range a) → IsTrue (is_short_state a) →
+        IsTrue (state_in_range b) → IsTrue (is_short_state b) →
         state_cmp a b ≡ slice_cmp nat_cmp (state a) (state b) }
 {}

@@ -20,7 +20,8 @@ fn object_of(row: &ObjectRow) -> Option<(Version, &Meta)>
 }
 
 fn shown(key: &Bytes, version: Version, meta: &Meta, common: Option<&[u8]>) -> Result<Entry, Memory>
-    ensures entry { IfOk result (λ e. e ≡ shown key.now (version, meta.now) (option_copied common.entry)) }
+    ensures entry { IfOk result
+        (λ e. e ≡ shown key.now (version, meta.now) (option_copied common.entry)) }
     ensures want { OnlyWant result }
 {
     match common {

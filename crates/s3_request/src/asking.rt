@@ -61,7 +61,9 @@ fn upload(head: &Head, bucket: Bytes, key: Bytes) -> Result<Ask, Memory>
 
 // PUT of a key: a copy where a source is named, else an upload.
 fn write(head: &Head, bucket: Bytes, key: Bytes) -> Result<Ask, Memory>
-    ensures same { IfOk result (λ ask. ask ≡ write_of head.now bucket key (header_of head.now.headers (codes "x-amz-copy-source"))) }
+    ensures same { IfOk result
+        (λ ask. ask ≡ write_of head.now bucket key
+        (header_of head.now.headers (codes "x-amz-copy-source"))) }
     ensures want { OnlyWant result }
 {
     match sent(head, b"x-amz-copy-source")? {

@@ -9,14 +9,18 @@ use crdt_core::Bytes;
 use http_model::Head;
 
 fn asks_to_close(headers: &[(Bytes, Bytes)]) -> bool
-    ensures { result ≡ list_any (λ h. is_word_of h.0 (codes "connection") && holds_word_of h.1 (codes "close")) headers.now }
+    ensures { result ≡ list_any
+        (λ h. is_word_of h.0 (codes "connection") && holds_word_of h.1
+        (codes "close")) headers.now }
 {
     headers.iter().any(|h| is_word(h.0.as_slice(), b"connection")
         && holds_word(h.1.as_slice(), b"close"))
 }
 
 fn asks_to_wait(headers: &[(Bytes, Bytes)]) -> bool
-    ensures { result ≡ list_any (λ h. is_word_of h.0 (codes "expect") && is_word_of h.1 (codes "100-continue")) headers.now }
+    ensures { result ≡ list_any
+        (λ h. is_word_of h.0 (codes "expect") && is_word_of h.1
+        (codes "100-continue")) headers.now }
 {
     headers.iter().any(|h| is_word(h.0.as_slice(), b"expect")
         && is_word(h.1.as_slice(), b"100-continue"))

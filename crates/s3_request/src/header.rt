@@ -50,7 +50,9 @@ pub(crate) fn has_refused_header(headers: &[(Bytes, Bytes)]) -> bool
 
 // Each announced length is a number, and is this text.
 fn are_lengths(headers: &[(Bytes, Bytes)], text: &[u8]) -> bool
-    ensures { result ≡ list_all (λ h. not (is_word_of h.0 (codes "content-length")) || (is_number_of digit_limit h.1 && bytes_eq text.now h.1)) headers.now }
+    ensures { result ≡ list_all
+        (λ h. not (is_word_of h.0 (codes "content-length")) ||
+        (is_number_of digit_limit h.1 && bytes_eq text.now h.1)) headers.now }
 {
     headers.iter().all(|h| {
         !is_word(h.0.as_slice(), b"content-length")

@@ -34,7 +34,8 @@ fn is_name(name: &[u8]) -> bool
 }
 
 fn have_names(parameters: &[(Bytes, Bytes)]) -> bool
-    ensures { result ≡ list_all (λ p. list_any (λ name. bytes_eq p.0 name) list_names) parameters.now }
+    ensures { result ≡ list_all
+        (λ p. list_any (λ name. bytes_eq p.0 name) list_names) parameters.now }
 {
     parameters.iter().all(|p| is_name(p.0.as_slice()))
 }
@@ -102,7 +103,9 @@ fn after_token(alloc: Global, token: &[u8]) -> Result<Option<After>, Memory>
 
 // Where a list starts, if the token is in order.
 fn after(alloc: Global, parameters: &[(Bytes, Bytes)]) -> Result<Option<After>, Memory>
-    ensures same { IfOk result (λ after. after ≡ after_of (first_of parameters.now (codes "continuation-token")) (first_of parameters.now (codes "start-after"))) }
+    ensures same { IfOk result
+        (λ after. after ≡ after_of (first_of parameters.now (codes "continuation-token"))
+        (first_of parameters.now (codes "start-after"))) }
     ensures want { OnlyWant result }
 {
     match first_named(parameters, b"continuation-token") {
@@ -146,7 +149,8 @@ fn list_with(
     url: bool,
     after: After,
 ) -> Result<Ask, Memory>
-    ensures same { IfOk result (λ ask. ask ≡ list_with bucket parameters.now (Some max) (Some url) (Some after)) }
+    ensures same { IfOk result
+        (λ ask. ask ≡ list_with bucket parameters.now (Some max) (Some url) (Some after)) }
     ensures want { OnlyWant result }
 {
     let prefix = value_or_empty(alloc, parameters, b"prefix")?;

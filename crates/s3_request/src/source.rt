@@ -52,7 +52,8 @@ pub fn is_digest(value: &Bytes, body: &[u8]) -> Result<bool, Memory>
 
 /// The same of a body of which the MD5 digest is known.
 pub fn is_md5(value: &Bytes, digest: &[u8; 16]) -> Result<bool, Memory>
-    ensures same { IfOk result (λ same. (body : List ℕ) → digest.now ≡ md5 body → same ≡ is_digest_of value.now body) }
+    ensures same { IfOk result (λ same. (body : List ℕ) → digest.now ≡ md5 body →
+        same ≡ is_digest_of value.now body) }
     ensures want { OnlyWant result }
 {
     let text = STANDARD.encode(value.allocator(), digest)?;

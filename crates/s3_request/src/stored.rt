@@ -116,7 +116,8 @@ pub(crate) fn stored_headers(
 
 // Whether a copy's headers come from its own request.
 fn replaces(headers: &[(Bytes, Bytes)]) -> bool
-    ensures { result ≡ is_said (header_of headers.now (codes "x-amz-metadata-directive")) (codes "REPLACE") }
+    ensures { result ≡ is_said (header_of headers.now (codes "x-amz-metadata-directive"))
+        (codes "REPLACE") }
 {
     match header(headers, b"x-amz-metadata-directive") {
         Some(value) => is_word(value, b"REPLACE"),

@@ -108,7 +108,8 @@ fn parameter_in(alloc: Global, piece: &[u8]) -> Result<Option<(Bytes, Bytes)>, M
 
 // The pieces of a query, which stand between `&`.
 fn pieces(alloc: Global, query: &[u8]) -> Result<Vec<&[u8]>, AllocError>
-    ensures { IfOk result (λ pieces. map (λ piece. piece.now) pieces.items ≡ slice_split is_and query.now) }
+    ensures { IfOk result (λ pieces. map
+        (λ piece. piece.now) pieces.items ≡ slice_split is_and query.now) }
 {
     query.split(|byte| *byte == b'&').collect(alloc)
 }
@@ -129,7 +130,8 @@ fn push_given(
 
 // The parameters that the pieces give.
 fn parameters_in(alloc: Global, pieces: &[&[u8]]) -> Result<List<(Bytes, Bytes)>, Memory>
-    ensures same { IfOk result (λ given. given ≡ filter_map parameter_in (map (λ piece. piece.now) pieces.now)) }
+    ensures same { IfOk result
+        (λ given. given ≡ filter_map parameter_in (map (λ piece. piece.now) pieces.now)) }
     ensures want { OnlyWant result }
 {
     let mut given = List::new(alloc);

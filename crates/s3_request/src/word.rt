@@ -41,7 +41,8 @@ pub(crate) fn holds_word(text: &[u8], word: &[u8]) -> bool
 
 /// The text is one of the names, with case.
 pub(crate) fn is_in(names: &[&[u8]], text: &[u8]) -> bool
-    ensures { result ≡ list_any (λ name. bytes_eq text.now name) (map (λ name. name.now) names.now) }
+    ensures { result ≡ list_any (λ name. bytes_eq text.now name) (map
+        (λ name. name.now) names.now) }
 {
     names.iter().any(|name| text == *name)
 }
@@ -63,7 +64,8 @@ pub(crate) fn first_named<'a>(pairs: &'a [(Bytes, Bytes)], name: &[u8]) -> Optio
 }
 
 fn header_named<'a>(headers: &'a [(Bytes, Bytes)], name: &[u8]) -> Option<&'a (Bytes, Bytes)>
-    ensures { option_map (λ header. header.now) result ≡ find (λ h. is_word h.0 name.now) headers.now }
+    ensures { option_map (λ header. header.now) result ≡ find
+        (λ h. is_word h.0 name.now) headers.now }
 {
     headers
         .iter()

@@ -8,6 +8,8 @@ ghost use Rattle.text_model.specs.Reading.{event_of, IsSchedule, IsFirstBadLine,
 /// The event that is read of a line is the one that the line spells; and every text is a schedule of events, or
 /// has a first line outside the grammar, or too many events before it.
 pub fn every_text_reads()
-    ensures lines { (line : List ℕ) (event : Event) → (event_of line ≡ Some event) ↔ Spells line event }
-    ensures texts { (input : List ℕ) → ((events : List Numbered) × IsSchedule input events) ⊎ (((n : ℕ) × IsFirstBadLine input n) ⊎ HasTooManyEvents input) }
+    ensures lines { (line : List ℕ) (event : Event) → (event_of line ≡ Some event) ↔
+        Spells line event }
+    ensures texts { (input : List ℕ) → ((events : List Numbered) × IsSchedule input events) ⊎
+        (((n : ℕ) × IsFirstBadLine input n) ⊎ HasTooManyEvents input) }
 {}

@@ -33,7 +33,8 @@ pub(crate) fn role_of(alloc: Global, words: &[&[u8]]) -> Result<Option<(Zone, Ki
 
 /// At least 1, 2 or 3 zones, or `maximum`.
 pub(crate) fn wanted(word: &[u8]) -> Result<Redundancy, LineFault>
-    ensures { Reads (λ wanted. (word.now ≡ redundancy_word wanted) × IsIn (redundancy_range wanted)) result }
+    ensures { Reads (λ wanted. (word.now ≡ redundancy_word wanted) ×
+        IsIn (redundancy_range wanted)) result }
 {
     if is(word, b"maximum") {
         return Ok(Redundancy::Maximum);

@@ -75,7 +75,8 @@ fn read_line(
 /// that begin with `#` are no events, but count; the last line may lack its line feed.
 pub fn parse(alloc: Global, text: &[u8]) -> Result<List<Numbered>, ScheduleFault>
     ensures events { IfOk result (IsSchedule text.now) }
-    ensures bad_line { (n : ℕ) → result ≡ Err (ScheduleFault.BadLine n) → IsFirstBadLine text.now n }
+    ensures bad_line { (n : ℕ) → result ≡ Err (ScheduleFault.BadLine n) →
+        IsFirstBadLine text.now n }
     ensures too_many { result ≡ Err ScheduleFault.TooManyEvents → HasTooManyEvents text.now }
 {
     let mut events = List::new(alloc);

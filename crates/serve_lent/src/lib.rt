@@ -43,15 +43,18 @@ pub fn serve_lent_request<L: Link, C: Clock>(
     // Whatever map the cluster holds: what is written is what the map answers to the first request in the bytes that are kept and
     // left, or a first part of it where the count of faults rose or an error is answered, and the cluster then holds what
     // the map has become.
-    ensures from_map { (g : Grammar) (q : Serving Plain) (stands : Stands (HoldsMap cluster.old) (C.times clock.old) served.old q) →
+    ensures from_map { (g : Grammar) (q : Serving Plain) (stands : Stands (HoldsMap cluster.old)
+        (C.times clock.old) served.old q) →
         ServesFromMap stands.store.state buckets.now g last q kept.old.bytes.items cluster.new (C.times clock.new) served.new result kept.new.bytes.items (L.present link.old) (L.present link.new) }
 
     // So it is of a cluster to which lawful acts led and which looks like one that holds the map.
-    ensures from_looks { (g : Grammar) (q : Serving Plain) (stands : Stands (LooksLikeMap cluster.old) (C.times clock.old) served.old q) →
+    ensures from_looks { (g : Grammar) (q : Serving Plain)
+        (stands : Stands (LooksLikeMap cluster.old) (C.times clock.old) served.old q) →
         ServesFromMap stands.store.state buckets.now g last q kept.old.bytes.items cluster.new (C.times clock.new) served.new result kept.new.bytes.items (L.present link.old) (L.present link.new) }
 
     // Whatever it holds, the request is served as it is stated over a cluster.
-    ensures serves { (g : Grammar) (p : Serving Model) → Stands (StandsFor cluster.old) (C.times clock.old) served.old p →
+    ensures serves { (g : Grammar) (p : Serving Model) →
+        Stands (StandsFor cluster.old) (C.times clock.old) served.old p →
         ServesOn (λ left. turn model buckets.now g last p (kept.old.bytes.items ++ left)) (Reached model fits lacks (StandsFor cluster.new) p.store) (known_from model fits lacks p.store) (C.times clock.new) served.new result kept.new.bytes.items (L.present link.old) (L.present link.new) }
     ensures goes { Goes model fits lacks (StandsFor cluster.old) (StandsFor cluster.new) result }
     ensures stays { Stays L.Link link.old link.new }

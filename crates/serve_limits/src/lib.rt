@@ -19,7 +19,8 @@ ghost use Rattle.serve_limits.specs.Counts.{IsUpTo, AllAreUpTo, passes_in, opens
 /// Time passes by ticks alone, requests are opened by what is asked for alone, and rounds are begun by syncs and repairs alone:
 /// after each step of each of these acts no more of them are there than before all, with what the acts add.
 pub fn acts_add_so_much()
-    ensures { (s : State) (time requests rounds : ℕ) (before : List Act) (act : Act) (later : List Act) →
+    ensures { (s : State) (time requests rounds : ℕ) (before : List Act) (act : Act)
+        (later : List Act) →
         IsUpTo time requests rounds s.world → AllByRecursion IsEvenAct (before ++ act ∷ later) →
         (let acts = before ++ act ∷ later in
         let then = after_acts s before in
@@ -38,5 +39,6 @@ pub fn clocks_and_counts_have_room()
 /// Over a cluster with changes to come a connection asks a job for each of its requests at most, each in the state to which those
 /// before it lead, and at no time past the greatest one, if nothing that was served before was. So what 1,000 connections ask is askable.
 pub fn connections_ask_what_is_askable()
-    ensures { (buckets : Buckets) (g : Grammar) (p : Serving Changing) (bytes : List ℕ) → p.time ≤ time_limit → AsksAskable changing p (stated changing buckets g p bytes) }
+    ensures { (buckets : Buckets) (g : Grammar) (p : Serving Changing) (bytes : List ℕ) →
+        p.time ≤ time_limit → AsksAskable changing p (stated changing buckets g p bytes) }
 {}

@@ -9,5 +9,7 @@ ghost use Rattle.serve_model.specs.Plain.{Plain, plain};
 /// What may be written of a get when serving over the map is given up in the middle of it is a first part of the
 /// connection's whole text, and the jobs before it are the first of those that it asks.
 pub fn gets_lie_within_their_connection()
-    ensures { (buckets : Buckets) (g : Grammar) (p : Serving Plain) (bytes : List ℕ) → AllByRecursion (GetLiesWithin plain (stated plain buckets g p bytes)) (stated plain buckets g p bytes).halts }
+    ensures { (buckets : Buckets) (g : Grammar) (p : Serving Plain) (bytes : List ℕ) →
+        AllByRecursion (GetLiesWithin plain (stated plain buckets g p bytes))
+        (stated plain buckets g p bytes).halts }
 {}

@@ -30,7 +30,8 @@ fn target_lines(alloc: Global, method: &[u8], target: &[u8]) -> Result<Bytes, Me
 
 // The lines of the signed headers.
 fn header_lines(alloc: Global, head: &Head, names: &[u8]) -> Result<Bytes, Memory>
-    ensures text { IfOk result (λ text. text ≡ lines_of (fields_in head.now) (parts_of 59 names.now)) }
+    ensures text { IfOk result
+        (λ text. text ≡ lines_of (fields_in head.now) (parts_of 59 names.now)) }
     ensures want { OnlyWant result }
 {
     let fields = fields_of(alloc, head)?;
@@ -45,7 +46,8 @@ pub fn canonical_request(
     names: &[u8],
     payload: &[u8],
 ) -> Result<Bytes, Memory>
-    ensures text { IfOk result (λ text. text ≡ spec.canonical_request head.now names.now payload.now) }
+    ensures text { IfOk result
+        (λ text. text ≡ spec.canonical_request head.now names.now payload.now) }
     ensures want { OnlyWant result }
 {
     let lines = header_lines(alloc, head, names)?;

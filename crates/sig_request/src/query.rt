@@ -75,7 +75,8 @@ fn spelled(alloc: Global, words: &[Bytes]) -> Result<List<Parameter>, Memory>
 
 // The parameters that words spell, in order.
 fn in_order(alloc: Global, words: &[Bytes]) -> Result<List<Parameter>, Memory>
-    ensures parameters { IfOk result (λ parameters. parameters ≡ spec.parameters_after [] words.now) }
+    ensures parameters { IfOk result
+        (λ parameters. parameters ≡ spec.parameters_after [] words.now) }
     ensures want { OnlyWant result }
 {
     let mut parameters = spelled(alloc, words)?.into_vec();

@@ -19,7 +19,8 @@ pub(crate) fn is_less(first: &[u8], second: &[u8]) -> bool
 
 // The parts of a text, where they stand in it.
 fn slices(alloc: Global, separator: u8, text: &[u8]) -> Result<Vec<&[u8]>, AllocError>
-    ensures { IfOk result (λ slices. map (λ slice. slice.now) slices.items ≡ spec.parts separator text.now) }
+    ensures { IfOk result (λ slices. map
+        (λ slice. slice.now) slices.items ≡ spec.parts separator text.now) }
 {
     text.split(|byte| *byte == separator).collect(alloc)
 }

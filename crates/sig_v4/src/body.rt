@@ -30,7 +30,8 @@ pub fn is_body_of(alloc: Global, digest: &[u8], body: &[u8]) -> Result<bool, Mem
 
 /// The same of a body of which the SHA-256 is known.
 pub fn is_sha256(alloc: Global, digest: &[u8], sum: &[u8; 32]) -> Result<bool, Memory>
-    ensures same { IfOk result (λ same. (body : List ℕ) → sum.now ≡ sha256 body → same ≡ spec.is_body_of digest.now body) }
+    ensures same { IfOk result (λ same. (body : List ℕ) → sum.now ≡ sha256 body →
+        same ≡ spec.is_body_of digest.now body) }
     ensures want { OnlyWant result }
 {
     let due = hexadecimal(alloc, sum)?;

@@ -46,7 +46,8 @@ fn due_signature(
     region: &[u8],
     claim: &Claim,
 ) -> Result<Bytes, Memory>
-    ensures signature { IfOk result (λ due. due ≡ spec.due_signature head.now secret.now region.now claim.now) }
+    ensures signature { IfOk result
+        (λ due. due ≡ spec.due_signature head.now secret.now region.now claim.now) }
     ensures want { OnlyWant result }
 {
     let time = claim.time.as_slice();
@@ -70,7 +71,8 @@ fn is_forged(
     region: &[u8],
     claim: &Claim,
 ) -> Result<bool, Memory>
-    ensures forged { IfOk result (λ forged. forged ≡ spec.is_forged head.now secret.now region.now claim.now) }
+    ensures forged { IfOk result
+        (λ forged. forged ≡ spec.is_forged head.now secret.now region.now claim.now) }
     ensures want { OnlyWant result }
 {
     let due = due_signature(alloc, head, secret, region, claim)?;

@@ -57,7 +57,8 @@ fn three_parts(
     second: &[u8],
     third: &[u8],
 ) -> Result<Option<Authorization>, Memory>
-    ensures parts { IfOk result (λ found. found ≡ spec.authorization_of (first.now ∷ second.now ∷ third.now ∷ [])) }
+    ensures parts { IfOk result
+        (λ found. found ≡ spec.authorization_of (first.now ∷ second.now ∷ third.now ∷ [])) }
     ensures want { OnlyWant result }
 {
     let credential = behind(b"AWS4-HMAC-SHA256 Credential=", first);
@@ -109,7 +110,8 @@ fn is_of(day: &[u8], region: &[u8], first: &Bytes, second: &Bytes) -> bool
 
 // Whether the last parts of a credential are those of S3.
 fn are_last(third: &Bytes, fourth: &Bytes) -> bool
-    ensures { result ≡ (same_name third.now (codes "s3") && same_name fourth.now (codes "aws4_request")) }
+    ensures { result ≡ (same_name third.now (codes "s3") && same_name fourth.now
+        (codes "aws4_request")) }
 {
     third.as_slice() == b"s3".as_slice() && fourth.as_slice() == b"aws4_request".as_slice()
 }
@@ -121,7 +123,8 @@ fn credential_id(
     region: &[u8],
     credential: &[u8],
 ) -> Result<Option<Bytes>, Memory>
-    ensures id { IfOk result (λ id. id ≡ spec.credential_id day.now region.now (parts_of 47 credential.now)) }
+    ensures id { IfOk result (λ id. id ≡ spec.credential_id day.now region.now
+        (parts_of 47 credential.now)) }
     ensures want { OnlyWant result }
 {
     let parts = parts(alloc, b'/', credential)?;

@@ -32,7 +32,8 @@ fn scope(alloc: Global, date: &[u8], region: &[u8]) -> Result<Bytes, Memory>
 
 /// The algorithm's line, and the line of the time.
 fn first_lines(alloc: Global, time: &[u8]) -> Result<Bytes, Memory>
-    ensures text { IfOk result (λ text. text ≡ codes "AWS4-HMAC-SHA256\n" ++ time.now ++ codes "\n") }
+    ensures text { IfOk result
+        (λ text. text ≡ codes "AWS4-HMAC-SHA256\n" ++ time.now ++ codes "\n") }
     ensures want { OnlyWant result }
 {
     let mut text = Bytes::from_slice(alloc, b"AWS4-HMAC-SHA256\n")?;
@@ -49,7 +50,8 @@ pub fn text_to_sign(
     region: &[u8],
     request: &[u8],
 ) -> Result<Bytes, Memory>
-    ensures text { IfOk result (λ text. text ≡ signing.text_to_sign time.now date.now region.now request.now) }
+    ensures text { IfOk result
+        (λ text. text ≡ signing.text_to_sign time.now date.now region.now request.now) }
     ensures want { OnlyWant result }
 {
     let scope = scope(alloc, date, region)?;
@@ -83,7 +85,8 @@ pub fn signature(
     region: &[u8],
     text: &[u8],
 ) -> Result<Bytes, Memory>
-    ensures signature { IfOk result (λ s. s ≡ signing.signature secret.now date.now region.now text.now) }
+    ensures signature { IfOk result
+        (λ s. s ≡ signing.signature secret.now date.now region.now text.now) }
     ensures want { OnlyWant result }
 {
     let key = signing_key(alloc, secret, date, region)?;

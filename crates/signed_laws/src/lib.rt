@@ -23,9 +23,12 @@ ghost use Rattle.signed_laws.specs.Allowed.{IsAllowed, OnlySignedIsCarriedOut, O
 /// Where keys are configured, the store is asked only what a request asks whose head a key signed that may ask it, and
 /// whose length and body nothing refuses, or to give an upload up that such a head asks; also where the connection is cut off.
 pub fn only_signed_requests_are_carried_out()
-    ensures of_map { (buckets : Buckets) (g : Grammar) → is_empty buckets.access.keys ≡ false → OnlySignedIsCarriedOut plain buckets g }
-    ensures of_cluster { (buckets : Buckets) (g : Grammar) → is_empty buckets.access.keys ≡ false → OnlySignedIsCarriedOut cluster buckets g }
-    ensures of_changing { (buckets : Buckets) (g : Grammar) → is_empty buckets.access.keys ≡ false → OnlySignedIsCarriedOut changing buckets g }
+    ensures of_map { (buckets : Buckets) (g : Grammar) → is_empty buckets.access.keys ≡ false →
+        OnlySignedIsCarriedOut plain buckets g }
+    ensures of_cluster { (buckets : Buckets) (g : Grammar) → is_empty buckets.access.keys ≡ false →
+        OnlySignedIsCarriedOut cluster buckets g }
+    ensures of_changing { (buckets : Buckets) (g : Grammar) → is_empty buckets.access.keys ≡ false →
+        OnlySignedIsCarriedOut changing buckets g }
 {}
 
 /// Where keys are configured, what is admitted is allowed: a key signed it that may ask it (`admitted`). What is written for
@@ -33,10 +36,17 @@ pub fn only_signed_requests_are_carried_out()
 /// refuses, or what a get got of one without an answer; and a get in the middle of which serving may be given up is such a
 /// request (`of_map`, `of_cluster`, `of_changing`); and the list of all buckets shows those that the key reads (`shown`).
 pub fn what_is_admitted_is_allowed()
-    ensures admitted { (access : Access) (now : ℕ) (head : Head) (a : Admitted) → is_empty access.keys ≡ false → admitted access now head ≡ Ok a → IsAllowed access now head a }
-    ensures of_map { (buckets : Buckets) (g : Grammar) → is_empty buckets.access.keys ≡ false → OnlyAllowedIsAnswered plain buckets g }
-    ensures of_cluster { (buckets : Buckets) (g : Grammar) → is_empty buckets.access.keys ≡ false → OnlyAllowedIsAnswered cluster buckets g }
-    ensures of_changing { (buckets : Buckets) (g : Grammar) → is_empty buckets.access.keys ≡ false → OnlyAllowedIsAnswered changing buckets g }
+    ensures admitted { (access : Access) (now : ℕ) (head : Head) (a : Admitted) →
+        is_empty access.keys ≡ false → admitted access now head ≡ Ok a →
+        IsAllowed access now head a }
+    ensures of_map { (buckets : Buckets) (g : Grammar) → is_empty buckets.access.keys ≡ false →
+        OnlyAllowedIsAnswered plain buckets g }
+    ensures of_cluster { (buckets : Buckets) (g : Grammar) → is_empty buckets.access.keys ≡ false →
+        OnlyAllowedIsAnswered cluster buckets g }
+    ensures of_changing { (buckets : Buckets) (g : Grammar) → is_empty buckets.access.keys ≡ false →
+        OnlyAllowedIsAnswered changing buckets g }
     ensures statuses { (code : Code) → 400 ≤ status_of code }
-    ensures shown { (buckets : Buckets) (place : ℕ) → AllByRecursion (λ name. has_bucket (read_by buckets.access place) name ≡ true) (shown_to buckets (Some place)) }
+    ensures shown { (buckets : Buckets) (place : ℕ) →
+        AllByRecursion (λ name. has_bucket (read_by buckets.access place) name ≡ true)
+        (shown_to buckets (Some place)) }
 {}

@@ -41,7 +41,8 @@ use world_reads::{
 /// where a delete marker that is not below was what it read. And what it shows was drawn before it finished, by a put or
 /// copy of that key, and such a delete marker by a delete of it.
 pub fn fresh_reads()
-    ensures { (acts : List Act) → AreLawfulActs start acts → ActsFit start acts → NoClash (ActsHash start acts) → NeverCollect acts → IsFresh (after_acts start acts) }
+    ensures { (acts : List Act) → AreLawfulActs start acts → ActsFit start acts →
+        NoClash (ActsHash start acts) → NeverCollect acts → IsFresh (after_acts start acts) }
 {
     every_world_is_sound::<S3Schema>();
     every_world_has_kept_reads::<S3Schema>();
@@ -56,7 +57,9 @@ pub fn fresh_reads()
 /// The same of prompt acts, whatever they collect: where a read shows none, a delete marker that is not below was what it
 /// read, or was collected; and such a marker was drawn by a delete of that key.
 pub fn prompt_reads_are_fresh()
-    ensures { (acts : List Act) → AreLawfulActs start acts → ActsFit start acts → NoClash (ActsHash start acts) → ArePromptActs [] start acts → IsFreshOrForgotten (after_acts start acts) }
+    ensures { (acts : List Act) → AreLawfulActs start acts → ActsFit start acts →
+        NoClash (ActsHash start acts) → ArePromptActs [] start acts →
+        IsFreshOrForgotten (after_acts start acts) }
 {
     every_world_is_sound::<S3Schema>();
     every_world_has_kept_reads::<S3Schema>();
@@ -70,7 +73,8 @@ pub fn prompt_reads_are_fresh()
 /// In prompt acts nothing but delete markers is collected, and from the act in which one was collected no node has an
 /// older version of its object, at any moment.
 pub fn nothing_comes_below_collected_markers()
-    ensures { (acts : List Act) → AreLawfulActs start acts → ActsFit start acts → ArePromptActs [] start acts → NothingIsBelow acts }
+    ensures { (acts : List Act) → AreLawfulActs start acts → ActsFit start acts →
+        ArePromptActs [] start acts → NothingIsBelow acts }
 {
     every_world_is_sound::<S3Schema>();
     every_world_has_kept_reads::<S3Schema>();
@@ -84,7 +88,9 @@ pub fn nothing_comes_below_collected_markers()
 /// Whatever comes, and whichever layouts are given, the reads of a run are fresh by its records alone, where no two of its
 /// buckets' names have one digest, and what is collected is collected safely: nothing is, or all acts are prompt.
 pub fn records_are_fresh()
-    ensures { (acts : List Act) → AreLawfulActs start acts → ActsFit start acts → NoClash (ActsHash start acts) → CollectsSafely acts → NoBucketsClash (after_acts start acts).buckets → Fresh (after_acts start acts).history }
+    ensures { (acts : List Act) → AreLawfulActs start acts → ActsFit start acts →
+        NoClash (ActsHash start acts) → CollectsSafely acts →
+        NoBucketsClash (after_acts start acts).buckets → Fresh (after_acts start acts).history }
 {
     every_world_is_sound::<S3Schema>();
     every_world_has_kept_reads::<S3Schema>();
@@ -100,7 +106,8 @@ pub fn records_are_fresh()
 /// are kept in blocks; and the size in the line of a head, and each size in the line of a list, is theirs, also where they
 /// are kept in blocks.
 pub fn reads_give_what_was_written()
-    ensures { (acts : List Act) → AreLawfulActs start acts → ActsFit start acts → GivesWhatWasWritten acts }
+    ensures { (acts : List Act) → AreLawfulActs start acts → ActsFit start acts →
+        GivesWhatWasWritten acts }
 {
     every_world_is_sound::<S3Schema>();
     every_world_has_kept_reads::<S3Schema>();
@@ -128,10 +135,14 @@ pub fn draining_leaves_nothing()
 /// The acts that lead to a moment of a run are lawful, and fit, what they hash is hashed in the run, none of them is
 /// `collect` if none of the run's is, and they are prompt if the run's are; so each law over lists of acts holds at each moment.
 pub fn moments_are_runs()
-    ensures runs { (acts moment : List Act) → AreLawfulActs start acts → ActsFit start acts → IsMoment acts moment → AreLawfulActs start moment × ActsFit start moment }
-    ensures clear { (acts moment : List Act) → IsMoment acts moment → NoClash (ActsHash start acts) → NoClash (ActsHash start moment) }
-    ensures never { (acts moment : List Act) → IsMoment acts moment → NeverCollect acts → NeverCollect moment }
-    ensures prompt { (acts moment : List Act) → IsMoment acts moment → ArePromptActs [] start acts → ArePromptActs [] start moment }
+    ensures runs { (acts moment : List Act) → AreLawfulActs start acts → ActsFit start acts →
+        IsMoment acts moment → AreLawfulActs start moment × ActsFit start moment }
+    ensures clear { (acts moment : List Act) → IsMoment acts moment →
+        NoClash (ActsHash start acts) → NoClash (ActsHash start moment) }
+    ensures never { (acts moment : List Act) → IsMoment acts moment → NeverCollect acts →
+        NeverCollect moment }
+    ensures prompt { (acts moment : List Act) → IsMoment acts moment → ArePromptActs [] start acts →
+        ArePromptActs [] start moment }
 {}
 
 /// Whatever comes, two nodes that accepted rows of a partition with the same members, in whatever order and however often,
@@ -154,8 +165,10 @@ pub fn replicas_are_equal()
 /// and each layout that a node knows, or that a view on its way shows, has the greatest partition size for its roles: those of
 /// applies, the one of `trio`, and an installed one.
 pub fn phases_read_what_was_kept()
-    ensures kept { (acts : List Act) → AreLawfulActs start acts → ActsFit start acts → NoClash (ActsHash start acts) → KeptReads any_join words (after_acts start acts).world }
-    ensures greatest { (acts : List Act) → AreLawfulActs start acts → ActsFit start acts → UsesGreatest (after_acts start acts).world }
+    ensures kept { (acts : List Act) → AreLawfulActs start acts → ActsFit start acts →
+        NoClash (ActsHash start acts) → KeptReads any_join words (after_acts start acts).world }
+    ensures greatest { (acts : List Act) → AreLawfulActs start acts → ActsFit start acts →
+        UsesGreatest (after_acts start acts).world }
 {
     every_world_is_sound::<S3Schema>();
     every_world_has_kept_reads::<S3Schema>();

@@ -20,7 +20,8 @@ use crdt_rows::{
 
 /// Where stored rows have spellings, with fewer than 2^32 entries together, each row that comes from them has one.
 pub fn rows_from_stored_rows_have_a_spelling()
-    ensures { (stored : List AnyRow) (row : AnyRow) → AllByRecursion IsSpelled stored → sum_of entries_in stored < 2 ^ 32 → ComesFrom any_join words stored row → IsSpelled row }
+    ensures { (stored : List AnyRow) (row : AnyRow) → AllByRecursion IsSpelled stored →
+        sum_of entries_in stored < 2 ^ 32 → ComesFrom any_join words stored row → IsSpelled row }
 {
     object_rows_join_as_facts();
     version_rows_join_as_facts();
@@ -30,9 +31,11 @@ pub fn rows_from_stored_rows_have_a_spelling()
 /// Where stored rows have spellings, rows of different places that come from them count no more than twice the bytes of the
 /// stored rows, all together. So the rows that contents have, as those of a node, where each comes from the stored rows.
 pub fn contents_weigh_no_more()
-    ensures of_rows { (stored rows : List AnyRow) → AllByRecursion IsSpelled stored → AllByRecursion (ComesFrom any_join words stored) rows → AreOfDifferentPlaces rows →
+    ensures of_rows { (stored rows : List AnyRow) → AllByRecursion IsSpelled stored →
+        AllByRecursion (ComesFrom any_join words stored) rows → AreOfDifferentPlaces rows →
         sum_of weight rows ≤ 2 * sum_of weight stored }
-    ensures of_contents { (stored contents : List AnyRow) → AllByRecursion IsSpelled stored → AllProper words contents →
+    ensures of_contents { (stored contents : List AnyRow) → AllByRecursion IsSpelled stored →
+        AllProper words contents →
         ((table : ℕ) (key : List ℕ) (row : AnyRow) → row_at any_join words contents table key ≡ Some row → ComesFrom any_join words stored row) → sum_of weight (rows_of any_join words contents) ≤ 2 * sum_of weight stored }
 {
     object_rows_join_as_facts();

@@ -65,7 +65,8 @@ impl Round {
 
     /// Each partition that some node of its set hasn't confirmed, in order, with these nodes.
     pub fn open_parts(&self) -> Result<Vec<(u8, Vec<u8>)>, Memory>
-        ensures nodes { IfOk result (λ v. (target : ℕ) (parts : List (ℕ × List ℕ)) (own : ℕ) (told : List (ℕ × ℕ)) →
+        ensures nodes { IfOk result
+            (λ v. (target : ℕ) (parts : List (ℕ × List ℕ)) (own : ℕ) (told : List (ℕ × ℕ)) →
             IsRound self.now target parts own told → map (λ part. (part.0, part.1.items)) v.items ≡ open_parts parts own told) }
         ensures want { OnlyWant result }
     {

@@ -24,7 +24,8 @@ pub fn first(keys: &Keys, key: &[u8]) -> Option<u64>
 /// Adds a number at a key, behind those that are there.
 pub fn add(alloc: Global, keys: &mut Keys, key: Vec<u8>, number: u64) -> Result<(), Memory>
     ensures ok { OnOk result (Adds key.items number keys.old keys.new) }
-    ensures err { OnErr result ((other : List ℕ) → numbers_at other keys.new ≡ numbers_at other keys.old) }
+    ensures err { OnErr result ((other : List ℕ) →
+        numbers_at other keys.new ≡ numbers_at other keys.old) }
     ensures want { OnlyWant result }
 {
     if let Some(numbers) = keys.get_mut(key.as_slice()) {

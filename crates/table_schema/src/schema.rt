@@ -68,13 +68,15 @@ pub trait Schema {
     /// written, and `Want` where no memory has room for so many bytes.
     fn row_length(row: &Self::Row) -> Result<usize, Memory>
         ensures is { IfOk result (λ n. option_map length (words.spelling row.now) ≡ Some n) }
-        ensures want { IfErr result (λ e. e ≡ Want → (bytes : List ℕ) → words.spelling row.now ≡ Some bytes → 2 ^ 64 ≤ length bytes) }
+        ensures want { IfErr result (λ e. e ≡ Want → (bytes : List ℕ) →
+            words.spelling row.now ≡ Some bytes → 2 ^ 64 ≤ length bytes) }
         ensures causes { WantOr result (words.spelling row.now ≡ None) };
 
     /// The row that has these bytes.
     fn row_from(alloc: Global, bytes: &[u8]) -> Result<Self::Row, RowFault>
         ensures is { IfOk result (λ r. words.read bytes.now ≡ Some r) }
-        ensures causes { IfErr result (λ e. (e ≡ WantsMemory) ⊎ ((e ≡ NotARow) × (words.read bytes.now ≡ None))) };
+        ensures causes { IfErr result (λ e. (e ≡ WantsMemory) ⊎
+            ((e ≡ NotARow) × (words.read bytes.now ≡ None))) };
 
     ghost laws: { Laws Self.Row.join words };
 }

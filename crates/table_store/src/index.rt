@@ -76,7 +76,9 @@ impl Part {
 
 // Takes the pair of a row out of a trie, if it has one.
 fn drop_pair(trie: &mut Trie, pair: Option<Pair>) -> Result<(), Memory>
-    ensures removed { OnOk result ((known : Hash32 × Hash32) → pair ≡ Some known → (held : List Held) → Keeps (blake2b 32) trie.old held → Keeps (blake2b 32) trie.new (removed known.0.0 held)) }
+    ensures removed { OnOk result ((known : Hash32 × Hash32) → pair ≡ Some known →
+        (held : List Held) → Keeps (blake2b 32) trie.old held →
+        Keeps (blake2b 32) trie.new (removed known.0.0 held)) }
     ensures nothing { OnOk result (pair ≡ None → trie.new ≡ trie.old) }
     ensures err { OnErr result (IsUnchanged trie.old trie.new) }
     ensures want { OnlyWant result }
@@ -110,9 +112,12 @@ fn add_key(alloc: Global, pairs: &mut Pairs, key: &[u8]) -> Result<(), Memory>
 
 /// Adds a key to others, where it isn't there.
 pub fn add_to(alloc: Global, keys: &mut BTreeSet<Vec<u8>>, key: &[u8]) -> Result<(), Memory>
-    ensures others { (other : List ℕ) → has_key other keys.old.keys ≡ true → has_key other keys.new.keys ≡ true }
+    ensures others { (other : List ℕ) → has_key other keys.old.keys ≡ true →
+        has_key other keys.new.keys ≡ true }
     ensures has { OnOk result (IsTrue (has_key key.now keys.new.keys)) }
-    ensures adds { OnOk result ((other : List ℕ) → has_key other keys.new.keys ≡ (has_key other keys.old.keys || is_eq (slice_cmp nat_cmp other key.now))) }
+    ensures adds { OnOk result ((other : List ℕ) →
+        has_key other keys.new.keys ≡ (has_key other keys.old.keys || is_eq
+        (slice_cmp nat_cmp other key.now))) }
     ensures want { OnlyWant result }
 {
     if keys.contains(key) {
@@ -125,8 +130,10 @@ pub fn add_to(alloc: Global, keys: &mut BTreeSet<Vec<u8>>, key: &[u8]) -> Result
 
 /// Notes that the row of a partition at a key changed. Whether or not there is room, nothing else changes.
 pub fn note(alloc: Global, index: &mut Index, p: u8, key: &[u8]) -> Result<(), Memory>
-    ensures grows { (q : ℕ) (part : Part) → get nat_cmp index.new q ≡ Some part → Grows (get nat_cmp index.old q) part }
-    ensures others { (q : ℕ) (other : List ℕ) → IsTrue (has_key other (keys_under index.old q)) → IsTrue (has_key other (keys_under index.new q)) }
+    ensures grows { (q : ℕ) (part : Part) → get nat_cmp index.new q ≡ Some part →
+        Grows (get nat_cmp index.old q) part }
+    ensures others { (q : ℕ) (other : List ℕ) → IsTrue (has_key other (keys_under index.old q)) →
+        IsTrue (has_key other (keys_under index.new q)) }
     ensures has { OnOk result (IsTrue (has_key key.now (keys_under index.new p))) }
     ensures waits { OnOk result (IsTrue (waits_in key.now (get nat_cmp index.new p))) }
     ensures want { OnlyWant result }
@@ -155,7 +162,8 @@ pub fn forget(index: &mut Index, p: u8, key: &[u8]) -> Result<(), Memory>
 
 /// The hash of a row's key, which the pair has that is known of the row.
 pub fn key_hash(key: &[u8], pair: Option<Pair>) -> Hash32
-    requires known { (known : Hash32 × Hash32) → pair ≡ Some known → known.0.0 ≡ blake2b 32 key.now }
+    requires known { (known : Hash32 × Hash32) → pair ≡ Some known →
+        known.0.0 ≡ blake2b 32 key.now }
     ensures { result.0 ≡ blake2b 32 key.now }
 {
     match pair {

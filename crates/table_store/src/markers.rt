@@ -76,7 +76,8 @@ pub fn change_marker(
     old: Option<(u64, u64)>,
     new: Option<(u64, u64)>,
 ) -> Result<(), Memory>
-    ensures marked { OnOk result ((version : ℕ × ℕ) → new ≡ Some version → marked_at version.0 key.now markers.new ≡ true) }
+    ensures marked { OnOk result ((version : ℕ × ℕ) → new ≡ Some version →
+        marked_at version.0 key.now markers.new ≡ true) }
     ensures others { OthersStay key.now markers.old markers.new }
     ensures stay { OnErr result (AllStay markers.old markers.new) }
     ensures want { OnlyWant result }
@@ -94,7 +95,8 @@ fn mark_new(
     new: Option<(u64, u64)>,
 ) -> Result<(), Memory>
     ensures stay { AllStay markers.old markers.new }
-    ensures marked { OnOk result ((version : ℕ × ℕ) → new ≡ Some version → marked_at version.0 key.now markers.new ≡ true) }
+    ensures marked { OnOk result ((version : ℕ × ℕ) → new ≡ Some version →
+        marked_at version.0 key.now markers.new ≡ true) }
     ensures want { OnlyWant result }
 {
     match new {
@@ -118,7 +120,8 @@ fn unmark_old(markers: &mut Markers, key: &[u8], old: Option<(u64, u64)>, new: O
 
 // There is a delete marker, and this is its timestamp.
 fn is_at(marker: Option<(u64, u64)>, ts: u64) -> bool
-    ensures { result ≡ false → (version : ℕ × ℕ) → marker ≡ Some version → (ts == version.0) ≡ false }
+    ensures { result ≡ false → (version : ℕ × ℕ) → marker ≡ Some version →
+        (ts == version.0) ≡ false }
 {
     match marker {
         Some(version) => ts == version.0,
@@ -134,7 +137,8 @@ pub fn add_marked<S: Schema>(
     keys: &mut BTreeSet<Vec<u8>>,
 ) -> Result<(), Memory>
     requires marked { AllMarked S.words shelf.now.markers shelf.now.rows.entries }
-    ensures adds { OnOk result (AddsWhere (is_marked_at S.words limit shelf.now.rows.entries) keys.old keys.new) }
+    ensures adds { OnOk result
+        (AddsWhere (is_marked_at S.words limit shelf.now.rows.entries) keys.old keys.new) }
     ensures want { OnlyWant result }
 {
     let aged = (Bound::Unbounded, Bound::Included(limit));
@@ -152,7 +156,9 @@ fn add_noted<S: Schema>(
     limit: u64,
     keys: &mut BTreeSet<Vec<u8>>,
 ) -> Result<(), Memory>
-    ensures adds { OnOk result (AddsWhere (λ key. has_key key noted.now.keys && is_marked_at S.words limit shelf.now.rows.entries key) keys.old keys.new) }
+    ensures adds { OnOk result (AddsWhere
+        (λ key. has_key key noted.now.keys &&
+        is_marked_at S.words limit shelf.now.rows.entries key) keys.old keys.new) }
     ensures want { OnlyWant result }
 {
     for key in noted {
@@ -169,7 +175,9 @@ fn add_one<S: Schema>(
     limit: u64,
     keys: &mut BTreeSet<Vec<u8>>,
 ) -> Result<(), Memory>
-    ensures adds { OnOk result (AddsWhere (only_at key.now (is_marked_at S.words limit shelf.now.rows.entries)) keys.old keys.new) }
+    ensures adds { OnOk result
+        (AddsWhere
+        (only_at key.now (is_marked_at S.words limit shelf.now.rows.entries)) keys.old keys.new) }
     ensures want { OnlyWant result }
 {
     if !is_marked::<S>(shelf, key, limit) {

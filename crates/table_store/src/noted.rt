@@ -35,7 +35,8 @@ pub fn has_rows<R>(shelf: &Shelf<R>, p: u8) -> bool
 
 // There is a row of the partition at one of these keys.
 fn has_row_of<R>(rows: &Rows<R>, p: u8, pairs: &Pairs) -> bool
-    ensures { result ≡ list_any (λ k. is_some (row_in p k.items rows.now.entries)) (keys_of pairs.now.entries) }
+    ensures { result ≡ list_any
+        (λ k. is_some (row_in p k.items rows.now.entries)) (keys_of pairs.now.entries) }
 {
     for (key, _) in pairs {
         if has_row(rows, p, key) {
@@ -64,7 +65,8 @@ pub fn push_noted<S: Schema>(
 ) -> Result<(), Memory>
     requires placed { AllPlaced S.words table shelf.now.rows.entries }
     requires fits { AllFit S.words shelf.now.index shelf.now.rows.entries }
-    ensures rows { OnOk result (rows.new.items ≡ rows.old.items ++ filter (is_among S.words notes.now) (rows_at p shelf.now)) }
+    ensures rows { OnOk result (rows.new.items ≡ rows.old.items ++ filter
+        (is_among S.words notes.now) (rows_at p shelf.now)) }
     ensures want { OnlyWant result }
 {
     are_in_order(&shelf.rows);

@@ -15,7 +15,8 @@ pub type Pair = (Hash32, Hash32);
 /// The value of pairs whose key hashes have one prefix, after which `left` bytes of them are left.
 pub fn pairs_value(alloc: Global, left: u8, pairs: &[Pair]) -> Result<Hash32, Memory>
     requires { left ≤ 32 }
-    ensures is { IfOk result (λ value. value.0 ≡ value_of (blake2b 32) left (32 - left) (shown pairs.now)) }
+    ensures is { IfOk result (λ value. value.0 ≡ value_of (blake2b 32) left (32 - left)
+        (shown pairs.now)) }
     ensures want { OnlyWant result }
 {
     if left == 0 {
@@ -36,7 +37,8 @@ pub fn pairs_value(alloc: Global, left: u8, pairs: &[Pair]) -> Result<Hash32, Me
 // The pairs whose key hash has this byte at this place.
 fn with_byte(alloc: Global, pairs: &[Pair], place: usize, byte: u8) -> Result<Vec<Pair>, Memory>
     requires { place < 32 }
-    ensures are { IfOk result (λ some. some.items ≡ filter (λ pair. slice_index pair.0.0 place == byte) pairs.now) }
+    ensures are { IfOk result
+        (λ some. some.items ≡ filter (λ pair. slice_index pair.0.0 place == byte) pairs.now) }
     ensures want { OnlyWant result }
 {
     let some: Vec<Pair> = pairs
@@ -54,7 +56,8 @@ fn push_branch(
     pairs: &[Pair],
     value: &Hash32,
 ) -> Result<(), Memory>
-    ensures branch { OnOk result (branches.new.items ≡ branches.old.items ++ branch byte (shown pairs.now) value.now.0) }
+    ensures branch { OnOk result (branches.new.items ≡ branches.old.items ++ branch byte
+        (shown pairs.now) value.now.0) }
     ensures want { OnlyWant result }
 {
     match pairs {

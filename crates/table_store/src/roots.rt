@@ -28,9 +28,12 @@ pub fn take_roots<S: Schema>(
     shelf: &Shelf<S::Row>,
     hasher: &mut Blake2b,
 ) -> Result<(), Memory>
-    ensures roots { OnOk result ((m : List ℕ) → Holds hasher.old m → Holds hasher.new (m ++ shelf_roots S.words shelf.now.rows.entries)) }
-    ensures written { OnOk result (any_unspelled S.words (shelf_rows shelf.now.rows.entries) ≡ false) }
-    ensures causes { WantOr result (IsTrue (any_unspelled S.words (shelf_rows shelf.now.rows.entries))) }
+    ensures roots { OnOk result ((m : List ℕ) → Holds hasher.old m →
+        Holds hasher.new (m ++ shelf_roots S.words shelf.now.rows.entries)) }
+    ensures written { OnOk result (any_unspelled S.words (shelf_rows shelf.now.rows.entries) ≡
+        false) }
+    ensures causes { WantOr result
+        (IsTrue (any_unspelled S.words (shelf_rows shelf.now.rows.entries))) }
 {
     let hashes = hashes_of::<S>(alloc, shelf)?;
     take_hashes(alloc, hashes.as_slice(), hasher)?;
@@ -39,9 +42,12 @@ pub fn take_roots<S: Schema>(
 
 // The hashes of all rows.
 fn hashes_of<S: Schema>(alloc: Global, shelf: &Shelf<S::Row>) -> Result<Vec<Hashed>, Memory>
-    ensures are { IfOk result (λ hashes. map tagged hashes.items ≡ map (λ e. (e.1.partition, entry_pair S.words e)) shelf.now.rows.entries) }
-    ensures written { OnOk result (any_unspelled S.words (shelf_rows shelf.now.rows.entries) ≡ false) }
-    ensures causes { WantOr result (IsTrue (any_unspelled S.words (shelf_rows shelf.now.rows.entries))) }
+    ensures are { IfOk result (λ hashes. map tagged hashes.items ≡ map
+        (λ e. (e.1.partition, entry_pair S.words e)) shelf.now.rows.entries) }
+    ensures written { OnOk result (any_unspelled S.words (shelf_rows shelf.now.rows.entries) ≡
+        false) }
+    ensures causes { WantOr result
+        (IsTrue (any_unspelled S.words (shelf_rows shelf.now.rows.entries))) }
 {
     let mut hashes = Vec::new(alloc);
     for (key, placed) in &shelf.rows {
@@ -56,7 +62,10 @@ fn hashes_of<S: Schema>(alloc: Global, shelf: &Shelf<S::Row>) -> Result<Vec<Hash
 
 // Takes in the root of each partition's pairs.
 fn take_hashes(alloc: Global, hashes: &[Hashed], hasher: &mut Blake2b) -> Result<(), Memory>
-    ensures roots { OnOk result ((m : List ℕ) → Holds hasher.old m → Holds hasher.new (m ++ flat_map (λ p. root (blake2b 32) (map (λ h. (tagged h).1) (filter (λ h. h.partition == p) hashes.now))) every_byte)) }
+    ensures roots { OnOk result ((m : List ℕ) → Holds hasher.old m →
+        Holds hasher.new (m ++ flat_map
+        (λ p. root (blake2b 32) (map (λ h. (tagged h).1) (filter
+        (λ h. h.partition == p) hashes.now))) every_byte)) }
     ensures want { OnlyWant result }
 {
     for p in 0..256u16 {
@@ -69,7 +78,8 @@ fn take_hashes(alloc: Global, hashes: &[Hashed], hasher: &mut Blake2b) -> Result
 
 // The pairs of a partition.
 fn pairs_in(alloc: Global, hashes: &[Hashed], p: u8) -> Result<Vec<Pair>, Memory>
-    ensures are { IfOk result (λ pairs. pairs.items ≡ map (λ h. h.pair) (filter (λ h. h.partition == p) hashes.now)) }
+    ensures are { IfOk result
+        (λ pairs. pairs.items ≡ map (λ h. h.pair) (filter (λ h. h.partition == p) hashes.now)) }
     ensures want { OnlyWant result }
 {
     let pairs: Vec<Pair> = hashes

@@ -42,8 +42,12 @@ pub fn settle_all<S: Schema>(
     ensures first_settled { OnOk result (IsSettledAt first.new.index p) }
     ensures second_settled { OnOk result (IsSettledAt second.new.index p) }
     ensures third_settled { OnOk result (IsSettledAt third.new.index p) }
-    ensures written { OnOk result (any_unspelled S.words (rows_at p first.old ++ (rows_at p second.old ++ rows_at p third.old)) ≡ false) }
-    ensures causes { WantOr result (IsTrue (any_unspelled S.words (rows_at p first.old ++ (rows_at p second.old ++ rows_at p third.old)))) }
+    ensures written { OnOk result
+        (any_unspelled S.words (rows_at p first.old ++
+        (rows_at p second.old ++ rows_at p third.old)) ≡ false) }
+    ensures causes { WantOr result
+        (IsTrue (any_unspelled S.words
+        (rows_at p first.old ++ (rows_at p second.old ++ rows_at p third.old)))) }
 {
     settle_part::<S>(alloc, first, p)?;
     settle_part::<S>(alloc, second, p)?;
@@ -82,7 +86,8 @@ fn settle_rows<S: Schema>(
     ensures keys { keys_of part.new.pairs.entries ≡ keys_of part.old.pairs.entries }
     ensures ordered { IsOrdered vec_cmp part.new.pairs }
     ensures settled { OnOk result (IsSettled part.new) }
-    ensures causes { WantOr result (IsTrue (any_unspelled S.words (shelf_rows (filter (in_partition p) rows.now.entries)))) }
+    ensures causes { WantOr result
+        (IsTrue (any_unspelled S.words (shelf_rows (filter (in_partition p) rows.now.entries)))) }
 {
     let _ = part.pairs.len();
     let mut hasher = Blake::new();
@@ -104,9 +109,11 @@ fn settle_first<S: Schema>(
     requires { Fits S.words p rows.now.entries part.old }
     ensures fits { Fits S.words p rows.now.entries part.new }
     ensures keys { keys_of part.new.pairs.entries ≡ keys_of part.old.pairs.entries }
-    ensures more { IfOk result (λ more. more ≡ true → length part.new.waiting.keys < length part.old.waiting.keys) }
+    ensures more { IfOk result (λ more. more ≡ true →
+        length part.new.waiting.keys < length part.old.waiting.keys) }
     ensures settled { IfOk result (λ more. more ≡ false → IsSettled part.new) }
-    ensures causes { WantOr result (IsTrue (any_unspelled S.words (shelf_rows (filter (in_partition p) rows.now.entries)))) }
+    ensures causes { WantOr result
+        (IsTrue (any_unspelled S.words (shelf_rows (filter (in_partition p) rows.now.entries)))) }
 {
     part.trie.settle(hasher)?;
     match part.waiting.first() {
@@ -129,15 +136,23 @@ fn take_at<S: Schema>(
     pairs: &mut Pairs,
 ) -> Result<(), Memory>
     requires settled { queued trie.old ≡ 0 }
-    requires has { (row : S.Row) → row_in p key.now.items rows.now.entries ≡ Some row → has_key key.now.items (keys_of pairs.old.entries) ≡ true }
-    requires known { (known : Hash32 × Hash32) → pair_at key.now.items pairs.old.entries ≡ Some known → known.0.0 ≡ blake2b 32 key.now.items }
-    ensures taken { OnOk result ((row : S.Row) → row_in p key.now.items rows.now.entries ≡ Some row → IsTaken S.words key.now.items row (pair_at key.now.items pairs.new.entries)) }
-    ensures nothing { row_in p key.now.items rows.now.entries ≡ None → pairs.new.entries ≡ pairs.old.entries }
-    ensures others { (other : List ℕ) → is_eq (slice_cmp nat_cmp key.now.items other) ≡ false → pair_at other pairs.new.entries ≡ pair_at other pairs.old.entries }
+    requires has { (row : S.Row) → row_in p key.now.items rows.now.entries ≡ Some row →
+        has_key key.now.items (keys_of pairs.old.entries) ≡ true }
+    requires known { (known : Hash32 × Hash32) →
+        pair_at key.now.items pairs.old.entries ≡ Some known →
+        known.0.0 ≡ blake2b 32 key.now.items }
+    ensures taken { OnOk result ((row : S.Row) →
+        row_in p key.now.items rows.now.entries ≡ Some row →
+        IsTaken S.words key.now.items row (pair_at key.now.items pairs.new.entries)) }
+    ensures nothing { row_in p key.now.items rows.now.entries ≡ None →
+        pairs.new.entries ≡ pairs.old.entries }
+    ensures others { (other : List ℕ) → is_eq (slice_cmp nat_cmp key.now.items other) ≡ false →
+        pair_at other pairs.new.entries ≡ pair_at other pairs.old.entries }
     ensures keys { keys_of pairs.new.entries ≡ keys_of pairs.old.entries }
     ensures kept { IsKept trie.old pairs.old.entries → IsKept trie.new pairs.new.entries }
     ensures err { OnErr result (pairs.new.entries ≡ pairs.old.entries) }
-    ensures causes { WantOr result (IsTrue (any_unspelled S.words (shelf_rows (filter (in_partition p) rows.now.entries)))) }
+    ensures causes { WantOr result
+        (IsTrue (any_unspelled S.words (shelf_rows (filter (in_partition p) rows.now.entries)))) }
 {
     match row_in(rows, p, key) {
         None => Ok(()),
@@ -158,9 +173,12 @@ fn take_row<S: Schema>(
 ) -> Result<(), Memory>
     requires settled { queued trie.old ≡ 0 }
     requires has { has_key key.now (keys_of pairs.old.entries) ≡ true }
-    requires known { (known : Hash32 × Hash32) → pair_at key.now pairs.old.entries ≡ Some known → known.0.0 ≡ blake2b 32 key.now }
-    ensures taken { OnOk result (IsTaken S.words key.now row.now (pair_at key.now pairs.new.entries)) }
-    ensures others { (other : List ℕ) → is_eq (slice_cmp nat_cmp key.now other) ≡ false → pair_at other pairs.new.entries ≡ pair_at other pairs.old.entries }
+    requires known { (known : Hash32 × Hash32) → pair_at key.now pairs.old.entries ≡ Some known →
+        known.0.0 ≡ blake2b 32 key.now }
+    ensures taken { OnOk result
+        (IsTaken S.words key.now row.now (pair_at key.now pairs.new.entries)) }
+    ensures others { (other : List ℕ) → is_eq (slice_cmp nat_cmp key.now other) ≡ false →
+        pair_at other pairs.new.entries ≡ pair_at other pairs.old.entries }
     ensures keys { keys_of pairs.new.entries ≡ keys_of pairs.old.entries }
     ensures kept { IsKept trie.old pairs.old.entries → IsKept trie.new pairs.new.entries }
     ensures err { OnErr result (pairs.new.entries ≡ pairs.old.entries) }
@@ -181,10 +199,13 @@ fn take_row<S: Schema>(
 // where another row has the key's hash.
 fn put_pair(trie: &mut Trie, pair: &mut Option<Pair>, key: &[u8], row: Hash32) -> Result<(), Memory>
     requires settled { queued trie.old ≡ 0 }
-    requires known { (known : Hash32 × Hash32) → pair.old ≡ Some known → known.0.0 ≡ blake2b 32 key.now }
+    requires known { (known : Hash32 × Hash32) → pair.old ≡ Some known →
+        known.0.0 ≡ blake2b 32 key.now }
     ensures is { OnOk result (option_map shown_pair pair.new ≡ Some (blake2b 32 key.now, row.0)) }
-    ensures put { OnOk result ((held : List Pair) → Keeps (blake2b 32) trie.old held → Keeps (blake2b 32) trie.new (put (blake2b 32 key.now) row.0 held)) }
-    ensures free { OnOk result (pair.old ≡ None → (held : List Pair) → Keeps (blake2b 32) trie.old held → only_at (blake2b 32 key.now) held ≡ None) }
+    ensures put { OnOk result ((held : List Pair) → Keeps (blake2b 32) trie.old held →
+        Keeps (blake2b 32) trie.new (put (blake2b 32 key.now) row.0 held)) }
+    ensures free { OnOk result (pair.old ≡ None → (held : List Pair) →
+        Keeps (blake2b 32) trie.old held → only_at (blake2b 32 key.now) held ≡ None) }
     ensures err { OnErr result (IsUnchanged trie.old trie.new × (pair.new ≡ pair.old)) }
     ensures want { OnlyWant result }
 {
@@ -200,7 +221,8 @@ fn put_pair(trie: &mut Trie, pair: &mut Option<Pair>, key: &[u8], row: Hash32) -
 // A settled trie has the key hash for another row than the one that has this pair.
 fn is_used(trie: &Trie, pair: Option<Pair>, key: &Hash32) -> bool
     requires { queued trie.now ≡ 0 }
-    ensures { result ≡ false → pair ≡ None → (held : List Pair) → Keeps (blake2b 32) trie.now held → only_at key.now.0 held ≡ None }
+    ensures { result ≡ false → pair ≡ None → (held : List Pair) → Keeps (blake2b 32) trie.now held →
+        only_at key.now.0 held ≡ None }
 {
     match pair {
         Some(_) => false,
@@ -221,7 +243,8 @@ pub fn trie_of<'a, S: Schema>(
     requires first { IsSettledAt first.now.index p }
     requires second { IsSettledAt second.now.index p }
     requires third { IsSettledAt third.now.index p }
-    ensures keeps { Keeps (blake2b 32) result.now (pairs_of S.words table p (rows_of_all first.now second.now third.now)) }
+    ensures keeps { Keeps (blake2b 32) result.now
+        (pairs_of S.words table p (rows_of_all first.now second.now third.now)) }
     ensures settled { queued result.now ≡ 0 }
 {
     match table {

@@ -84,9 +84,12 @@ fn merge_at<S: Schema>(
 ) -> Result<Taken<S::Row>, Memory>
     ensures row { OnOk result (there.new.row ≡ S.Row.join there.old.row row) }
     ensures partition { there.new.partition ≡ there.old.partition }
-    ensures before { IfOk result (λ taken. option_map (λ h. h.0) taken.before ≡ S.words.live_block there.old.row) }
-    ensures change { IfOk result (λ taken. taken.change ≡ change_of S.Row.join S.words (Some there.old.row) row) }
-    ensures marked { OnOk result ((version : ℕ × ℕ) → S.words.marker there.new.row ≡ Some version → marked_at version.0 key.now markers.new ≡ true) }
+    ensures before { IfOk result
+        (λ taken. option_map (λ h. h.0) taken.before ≡ S.words.live_block there.old.row) }
+    ensures change { IfOk result
+        (λ taken. taken.change ≡ change_of S.Row.join S.words (Some there.old.row) row) }
+    ensures marked { OnOk result ((version : ℕ × ℕ) → S.words.marker there.new.row ≡ Some version →
+        marked_at version.0 key.now markers.new ≡ true) }
     ensures others { OthersStay key.now markers.old markers.new }
     ensures unchanged { OnErr result (there.new ≡ there.old) }
     ensures stay { OnErr result (AllStay markers.old markers.new) }
@@ -113,12 +116,23 @@ pub fn take_into<S: Schema>(
     shelf: &mut Shelf<S::Row>,
     row: S::Row,
 ) -> Result<Taken<S::Row>, Memory>
-    ensures rows { OnOk result ((table : ℕ) → S.words.table row ≡ table → AllPlaced S.words table shelf.old.rows.entries → shelf_rows shelf.new.rows.entries ≡ merged_in S.Row.join S.words row (shelf_rows shelf.old.rows.entries)) }
-    ensures placed { OnOk result ((table : ℕ) → S.words.table row ≡ table → AllPlaced S.words table shelf.old.rows.entries → AllPlaced S.words table shelf.new.rows.entries) }
-    ensures before { IfOk result (λ taken. option_map (λ h. h.0) taken.before ≡ option_and_then S.words.live_block (shelf_find (S.words.key row) shelf.old.rows.entries)) }
-    ensures change { IfOk result (λ taken. taken.change ≡ change_of S.Row.join S.words (shelf_find (S.words.key row) shelf.old.rows.entries) row) }
-    ensures fits { AllFit S.words shelf.old.index shelf.old.rows.entries → AllFit S.words shelf.new.index shelf.new.rows.entries }
-    ensures marked { AllMarked S.words shelf.old.markers shelf.old.rows.entries → AllMarked S.words shelf.new.markers shelf.new.rows.entries }
+    ensures rows { OnOk result ((table : ℕ) → S.words.table row ≡ table →
+        AllPlaced S.words table shelf.old.rows.entries →
+        shelf_rows shelf.new.rows.entries ≡ merged_in S.Row.join S.words row
+        (shelf_rows shelf.old.rows.entries)) }
+    ensures placed { OnOk result ((table : ℕ) → S.words.table row ≡ table →
+        AllPlaced S.words table shelf.old.rows.entries →
+        AllPlaced S.words table shelf.new.rows.entries) }
+    ensures before { IfOk result
+        (λ taken. option_map (λ h. h.0) taken.before ≡ option_and_then S.words.live_block
+        (shelf_find (S.words.key row) shelf.old.rows.entries)) }
+    ensures change { IfOk result
+        (λ taken. taken.change ≡ change_of S.Row.join S.words
+        (shelf_find (S.words.key row) shelf.old.rows.entries) row) }
+    ensures fits { AllFit S.words shelf.old.index shelf.old.rows.entries →
+        AllFit S.words shelf.new.index shelf.new.rows.entries }
+    ensures marked { AllMarked S.words shelf.old.markers shelf.old.rows.entries →
+        AllMarked S.words shelf.new.markers shelf.new.rows.entries }
     ensures unchanged { OnErr result (shelf.new.rows.entries ≡ shelf.old.rows.entries) }
     ensures want { OnlyWant result }
 {
@@ -176,7 +190,8 @@ pub fn are_in_order<R>(rows: &Rows<R>)
 
 /// Appends copies of a partition's rows, in order of their keys.
 pub fn push_partition<R: Crdt>(shelf: &Shelf<R>, p: u8, rows: &mut Vec<R>) -> Result<(), Memory>
-    ensures rows { OnOk result (rows.new.items ≡ rows.old.items ++ shelf_rows (filter (in_partition p) shelf.now.rows.entries)) }
+    ensures rows { OnOk result (rows.new.items ≡ rows.old.items ++ shelf_rows
+        (filter (in_partition p) shelf.now.rows.entries)) }
     ensures want { OnlyWant result }
 {
     are_in_order(&shelf.rows);
@@ -199,7 +214,9 @@ pub fn push_blocks<S: Schema>(
     p: u8,
     hashes: &mut Vec<Hash32>,
 ) -> Result<(), Memory>
-    ensures hashes { OnOk result (map (λ hash. hash.0) hashes.new.items ≡ map (λ hash. hash.0) hashes.old.items ++ live_blocks S.words (shelf_rows (filter (in_partition p) shelf.now.rows.entries))) }
+    ensures hashes { OnOk result (map (λ hash. hash.0) hashes.new.items ≡ map
+        (λ hash. hash.0) hashes.old.items ++ live_blocks S.words
+        (shelf_rows (filter (in_partition p) shelf.now.rows.entries))) }
     ensures want { OnlyWant result }
 {
     are_in_order(&shelf.rows);
@@ -217,7 +234,8 @@ pub fn push_blocks<S: Schema>(
 }
 
 fn push_block<S: Schema>(row: &S::Row, hashes: &mut Vec<Hash32>) -> Result<(), Memory>
-    ensures hashes { OnOk result (map (λ hash. hash.0) hashes.new.items ≡ map (λ hash. hash.0) hashes.old.items ++ option_to_list (S.words.live_block row.now)) }
+    ensures hashes { OnOk result (map (λ hash. hash.0) hashes.new.items ≡ map
+        (λ hash. hash.0) hashes.old.items ++ option_to_list (S.words.live_block row.now)) }
     ensures want { OnlyWant result }
 {
     if let Some(hash) = S::live_block(row) {
@@ -228,9 +246,12 @@ fn push_block<S: Schema>(row: &S::Row, hashes: &mut Vec<Hash32>) -> Result<(), M
 
 /// Drops a partition's rows, and its trie.
 pub fn drop_rows<S: Schema>(shelf: &mut Shelf<S::Row>, p: u8)
-    ensures rows { shelf.new.rows.entries ≡ filter (λ e. not (in_partition p e)) shelf.old.rows.entries }
-    ensures fits { (s : Words S.Row) → AllFit s shelf.old.index shelf.old.rows.entries → AllFit s shelf.new.index shelf.new.rows.entries }
-    ensures marked { AllMarked S.words shelf.old.markers shelf.old.rows.entries → AllMarked S.words shelf.new.markers shelf.new.rows.entries }
+    ensures rows { shelf.new.rows.entries ≡ filter
+        (λ e. not (in_partition p e)) shelf.old.rows.entries }
+    ensures fits { (s : Words S.Row) → AllFit s shelf.old.index shelf.old.rows.entries →
+        AllFit s shelf.new.index shelf.new.rows.entries }
+    ensures marked { AllMarked S.words shelf.old.markers shelf.old.rows.entries →
+        AllMarked S.words shelf.new.markers shelf.new.rows.entries }
 {
     are_in_order(&shelf.rows);
     match shelf.index.get(&p) {
@@ -244,8 +265,11 @@ pub fn drop_rows<S: Schema>(shelf: &mut Shelf<S::Row>, p: u8)
 
 // Drops the rows at these keys that are in this partition.
 fn drop_keys<S: Schema>(rows: &mut Rows<S::Row>, markers: &mut Markers, p: u8, pairs: &Pairs)
-    ensures rows { rows.new.entries ≡ filter (λ e. not (in_partition p e && has_key e.0.items (keys_of pairs.now.entries))) rows.old.entries }
-    ensures marked { AllMarked S.words markers.old rows.old.entries → AllMarked S.words markers.new rows.new.entries }
+    ensures rows { rows.new.entries ≡ filter
+        (λ e. not (in_partition p e && has_key e.0.items
+        (keys_of pairs.now.entries))) rows.old.entries }
+    ensures marked { AllMarked S.words markers.old rows.old.entries →
+        AllMarked S.words markers.new rows.new.entries }
 {
     for (key, _) in pairs {
         drop_row::<S>(rows, markers, p, key);
@@ -254,8 +278,10 @@ fn drop_keys<S: Schema>(rows: &mut Rows<S::Row>, markers: &mut Markers, p: u8, p
 
 // Drops the row at a key, where it is in this partition.
 fn drop_row<S: Schema>(rows: &mut Rows<S::Row>, markers: &mut Markers, p: u8, key: &Vec<u8>)
-    ensures rows { rows.new.entries ≡ filter (λ e. not (in_partition p e && has_key_of key.now e)) rows.old.entries }
-    ensures marked { AllMarked S.words markers.old rows.old.entries → AllMarked S.words markers.new rows.new.entries }
+    ensures rows { rows.new.entries ≡ filter
+        (λ e. not (in_partition p e && has_key_of key.now e)) rows.old.entries }
+    ensures marked { AllMarked S.words markers.old rows.old.entries →
+        AllMarked S.words markers.new rows.new.entries }
 {
     are_in_order(rows);
     if has_row(rows, p, key) {
@@ -267,7 +293,8 @@ fn drop_row<S: Schema>(rows: &mut Rows<S::Row>, markers: &mut Markers, p: u8, ke
 fn take_row<S: Schema>(rows: &mut Rows<S::Row>, markers: &mut Markers, key: &[u8]) -> Option<S::Row>
     ensures row { result ≡ shelf_find key.now rows.old.entries }
     ensures rows { rows.new.entries ≡ without_key key.now rows.old.entries }
-    ensures marked { AllMarked S.words markers.old rows.old.entries → AllMarked S.words markers.new rows.new.entries }
+    ensures marked { AllMarked S.words markers.old rows.old.entries →
+        AllMarked S.words markers.new rows.new.entries }
 {
     are_in_order(rows);
     let placed = rows.remove(key)?;
@@ -288,8 +315,10 @@ fn unmark_row<S: Schema>(markers: &mut Markers, key: &[u8], row: &S::Row)
 pub fn take_out<S: Schema>(shelf: &mut Shelf<S::Row>, key: &[u8]) -> Result<Option<S::Row>, Memory>
     ensures row { IfOk result (λ row. row ≡ shelf_find key.now shelf.old.rows.entries) }
     ensures rows { OnOk result (shelf.new.rows.entries ≡ others_at key.now shelf.old.rows.entries) }
-    ensures fits { AllFit S.words shelf.old.index shelf.old.rows.entries → AllFit S.words shelf.new.index shelf.new.rows.entries }
-    ensures marked { AllMarked S.words shelf.old.markers shelf.old.rows.entries → AllMarked S.words shelf.new.markers shelf.new.rows.entries }
+    ensures fits { AllFit S.words shelf.old.index shelf.old.rows.entries →
+        AllFit S.words shelf.new.index shelf.new.rows.entries }
+    ensures marked { AllMarked S.words shelf.old.markers shelf.old.rows.entries →
+        AllMarked S.words shelf.new.markers shelf.new.rows.entries }
     ensures unchanged { OnErr result (shelf.new.rows.entries ≡ shelf.old.rows.entries) }
     ensures want { OnlyWant result }
 {

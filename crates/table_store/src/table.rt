@@ -91,8 +91,12 @@ impl<S: Schema> Table<S> {
     /// Merges a row in, and tells what that changed, and which block the row at its place needed before.
     pub fn take_in(&mut self, row: S::Row) -> Result<Taken<S::Row>, Memory>
         ensures rows { OnOk result (self.new ≡ merged_in S.Row.join S.words row self.old) }
-        ensures before { IfOk result (λ taken. option_map (λ h. h.0) taken.before ≡ option_and_then S.words.live_block (find_row S.words (S.words.table row) (S.words.key row) self.old)) }
-        ensures change { IfOk result (λ taken. taken.change ≡ change_of S.Row.join S.words (find_row S.words (S.words.table row) (S.words.key row) self.old) row) }
+        ensures before { IfOk result
+            (λ taken. option_map (λ h. h.0) taken.before ≡ option_and_then S.words.live_block
+            (find_row S.words (S.words.table row) (S.words.key row) self.old)) }
+        ensures change { IfOk result
+            (λ taken. taken.change ≡ change_of S.Row.join S.words
+            (find_row S.words (S.words.table row) (S.words.key row) self.old) row) }
         ensures unchanged { OnErr result (self.new ≡ self.old) }
         ensures want { OnlyWant result }
     {
@@ -118,7 +122,9 @@ impl<S: Schema> Table<S> {
     /// Merges a copy of a row in, and tells what that changed.
     pub fn merge_in(&mut self, row: &S::Row) -> Result<Change<S::Row>, Memory>
         ensures rows { OnOk result (self.new ≡ merged_in S.Row.join S.words row.now self.old) }
-        ensures change { IfOk result (λ change. change ≡ change_of S.Row.join S.words (find_row S.words (S.words.table row.now) (S.words.key row.now) self.old) row.now) }
+        ensures change { IfOk result
+            (λ change. change ≡ change_of S.Row.join S.words
+            (find_row S.words (S.words.table row.now) (S.words.key row.now) self.old) row.now) }
         ensures unchanged { OnErr result (self.new ≡ self.old) }
         ensures want { OnlyWant result }
     {
@@ -135,7 +141,9 @@ impl<S: Schema> Table<S> {
         after: &[u8],
         limit: usize,
     ) -> Result<(Vec<S::Row>, bool), Memory>
-        ensures is { IfOk result (λ found. (found.0.items, found.1) ≡ range S.words table prefix.now after.now limit self.now) }
+        ensures is { IfOk result
+            (λ found. (found.0.items, found.1) ≡
+            range S.words table prefix.now after.now limit self.now) }
         ensures want { OnlyWant result }
     {
         match table {
@@ -172,7 +180,9 @@ impl<S: Schema> Table<S> {
 
     /// The rows of a partition whose tables and key hashes are among these, in order of table, then of key.
     pub fn noted_rows(&self, p: u8, noted: &[(u8, Hash32)]) -> Result<Vec<S::Row>, Memory>
-        ensures are { IfOk result (λ rows. rows.items ≡ filter (is_noted S.words noted.now) (rows_in S.words p self.now)) }
+        ensures are { IfOk result
+            (λ rows. rows.items ≡ filter (is_noted S.words noted.now)
+            (rows_in S.words p self.now)) }
         ensures want { OnlyWant result }
     {
         let notes = notes_of(self.alloc, noted)?;
@@ -186,7 +196,9 @@ impl<S: Schema> Table<S> {
     /// Drops the rows of a partition, and its tries, and gives the hashes of the blocks that they needed, one for each such row.
     pub fn drop_partition(&mut self, p: u8) -> Result<Vec<Hash32>, Memory>
         ensures rows { OnOk result (self.new ≡ without S.words p self.old) }
-        ensures blocks { IfOk result (λ hashes. map (λ hash. hash.0) hashes.items ≡ live_blocks S.words (rows_in S.words p self.old)) }
+        ensures blocks { IfOk result
+            (λ hashes. map (λ hash. hash.0) hashes.items ≡ live_blocks S.words
+            (rows_in S.words p self.old)) }
         ensures unchanged { OnErr result (self.new ≡ self.old) }
         ensures want { OnlyWant result }
     {
@@ -203,7 +215,8 @@ impl<S: Schema> Table<S> {
     /// Takes out the row of a table and key, if there is one, and gives it.
     pub fn remove(&mut self, table: u8, key: &[u8]) -> Result<Option<S::Row>, Memory>
         ensures row { IfOk result (λ row. row ≡ find_row S.words table key.now self.old) }
-        ensures rows { OnOk result (self.new ≡ filter (λ r. not (is_at S.words table key.now r)) self.old) }
+        ensures rows { OnOk result (self.new ≡ filter
+            (λ r. not (is_at S.words table key.now r)) self.old) }
         ensures unchanged { OnErr result (self.new ≡ self.old) }
         ensures want { OnlyWant result }
     {
@@ -227,7 +240,9 @@ impl<S: Schema> Table<S> {
     /// Adds the keys of the rows of table 1 that have nothing but a delete marker, whose timestamp is at most `limit`.
     /// Where there is none, only the least timestamp is looked at.
     pub fn add_marked(&self, limit: u64, keys: &mut BTreeSet<Vec<u8>>) -> Result<(), Memory>
-        ensures adds { OnOk result ((key : List ℕ) → has_key key keys.new.keys ≡ (has_key key keys.old.keys || is_marked S.words limit (find_row S.words 1 key self.now))) }
+        ensures adds { OnOk result ((key : List ℕ) →
+            has_key key keys.new.keys ≡ (has_key key keys.old.keys || is_marked S.words limit
+            (find_row S.words 1 key self.now))) }
         ensures want { OnlyWant result }
     {
         add_marked::<S>(self.alloc, &self.first, limit, keys)
@@ -251,7 +266,8 @@ impl<S: Schema> Table<S> {
         ensures rows { self.new ≡ self.old }
         ensures proper { All (λ r. IsTrue (S.words.is_proper r)) self.old }
         ensures written { OnOk result (any_unspelled S.words (rows_in S.words p self.old) ≡ false) }
-        ensures causes { WantOr result (IsTrue (any_unspelled S.words (rows_in S.words p self.old))) }
+        ensures causes { WantOr result
+            (IsTrue (any_unspelled S.words (rows_in S.words p self.old))) }
     {
         settle_all::<S>(
             self.alloc,
@@ -266,10 +282,13 @@ impl<S: Schema> Table<S> {
     /// The value at a prefix of key hashes in the trie of a table and partition, which first takes in the rows that
     /// changed since. `Full` where some row of the partition can't be written.
     pub fn value(&mut self, table: u8, p: u8, prefix: &[u8]) -> Result<Hash32, Memory>
-        ensures is { IfOk result (λ value. value.0 ≡ value_at (blake2b 32) prefix.now (pairs_of S.words table p self.old)) }
+        ensures is { IfOk result
+            (λ value. value.0 ≡ value_at (blake2b 32) prefix.now
+            (pairs_of S.words table p self.old)) }
         ensures rows { self.new ≡ self.old }
         ensures written { OnOk result (any_unspelled S.words (rows_in S.words p self.old) ≡ false) }
-        ensures causes { WantOr result (IsTrue (any_unspelled S.words (rows_in S.words p self.old))) }
+        ensures causes { WantOr result
+            (IsTrue (any_unspelled S.words (rows_in S.words p self.old))) }
     {
         settle_all::<S>(
             self.alloc,
@@ -291,10 +310,13 @@ impl<S: Schema> Table<S> {
 
     /// Each byte that some key hash has next after the prefix there, ascending, with the value at it.
     pub fn children(&mut self, table: u8, p: u8, prefix: &[u8]) -> Result<Vec<(u8, Hash32)>, Memory>
-        ensures are { IfOk result (λ children. map plain children.items ≡ children_at (blake2b 32) prefix.now (pairs_of S.words table p self.old)) }
+        ensures are { IfOk result
+            (λ children. map plain children.items ≡ children_at (blake2b 32) prefix.now
+            (pairs_of S.words table p self.old)) }
         ensures rows { self.new ≡ self.old }
         ensures written { OnOk result (any_unspelled S.words (rows_in S.words p self.old) ≡ false) }
-        ensures causes { WantOr result (IsTrue (any_unspelled S.words (rows_in S.words p self.old))) }
+        ensures causes { WantOr result
+            (IsTrue (any_unspelled S.words (rows_in S.words p self.old))) }
     {
         settle_all::<S>(
             self.alloc,
@@ -327,11 +349,14 @@ impl<S: Schema> Table<S> {
             Tells (taken table prefix.now (asks (blake2b 32) table prefix.now theirs.now (pairs_of S.words table walk.old.partition self.old))
             (notes (blake2b 32) table prefix.now theirs.now (pairs_of S.words table walk.old.partition self.old)) walk.old)
             (asks (blake2b 32) table prefix.now theirs.now (pairs_of S.words table walk.old.partition self.old)) end walk.new) }
-        ensures idle { is_open table prefix.now walk.old.prefixes ≡ false → IfOk result (λ end. TellsNothing end × (walk.new ≡ walk.old)) }
+        ensures idle { is_open table prefix.now walk.old.prefixes ≡ false →
+            IfOk result (λ end. TellsNothing end × (walk.new ≡ walk.old)) }
         ensures err { OnErr result (walk.new ≡ walk.old) }
         ensures rows { self.new ≡ self.old }
-        ensures written { OnOk result (any_unspelled S.words (rows_in S.words walk.old.partition self.old) ≡ false) }
-        ensures causes { WantOr result (IsTrue (any_unspelled S.words (rows_in S.words walk.old.partition self.old))) }
+        ensures written { OnOk result
+            (any_unspelled S.words (rows_in S.words walk.old.partition self.old) ≡ false) }
+        ensures causes { WantOr result
+            (IsTrue (any_unspelled S.words (rows_in S.words walk.old.partition self.old))) }
     {
         let p = walk.partition();
         settle_all::<S>(

@@ -21,7 +21,8 @@ pub fn rows_past<R: Crdt>(
     after: &[u8],
     limit: usize,
 ) -> Result<(Vec<R>, bool), Memory>
-    ensures is { IfOk result (λ found. (found.0.items, found.1) ≡ window limit (shelf_rows (filter (is_after prefix.now after.now) shelf.now.rows.entries))) }
+    ensures is { IfOk result (λ found. (found.0.items, found.1) ≡ window limit
+        (shelf_rows (filter (is_after prefix.now after.now) shelf.now.rows.entries))) }
     ensures want { OnlyWant result }
 {
     let start = start_of(alloc, prefix, after)?;
@@ -35,7 +36,9 @@ pub fn rows_past<R: Crdt>(
 
 // Where keys begin that are greater than `after` and may have the prefix.
 fn start_of(alloc: Global, prefix: &[u8], after: &[u8]) -> Result<Bound<Vec<u8>>, Memory>
-    ensures is { IfOk result (λ start. (key : Vec ℕ) → is_from_start vec_cmp start key ≡ (is_le (slice_cmp nat_cmp prefix.now key.items) && is_lt (slice_cmp nat_cmp after.now key.items))) }
+    ensures is { IfOk result (λ start. (key : Vec ℕ) →
+        is_from_start vec_cmp start key ≡ (is_le (slice_cmp nat_cmp prefix.now key.items) && is_lt
+        (slice_cmp nat_cmp after.now key.items))) }
     ensures want { OnlyWant result }
 {
     if after.cmp(&prefix).is_lt() {
@@ -52,7 +55,8 @@ fn first_rows<R: Crdt>(
     prefix: &[u8],
     limit: usize,
 ) -> Result<(Vec<R>, bool), Memory>
-    ensures is { IfOk result (λ found. (found.0.items, found.1) ≡ window limit (shelf_rows (leading (begins prefix.now) entries.entry))) }
+    ensures is { IfOk result (λ found. (found.0.items, found.1) ≡ window limit
+        (shelf_rows (leading (begins prefix.now) entries.entry))) }
     ensures want { OnlyWant result }
 {
     let mut rows = Vec::new(alloc);

@@ -6,5 +6,6 @@ ghost use Rattle.text_model.specs.Played.{AreScheduled};
 
 /// An input that is a schedule has at most 100,000 events, whose words are in their ranges.
 pub fn schedules_are_within_limits()
-    ensures { (input : List ℕ) (events : List Numbered) → IsSchedule input events → AreScheduled events }
+    ensures { (input : List ℕ) (events : List Numbered) → IsSchedule input events →
+        AreScheduled events }
 {}

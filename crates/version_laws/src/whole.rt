@@ -8,10 +8,12 @@ ghost use Rattle.control_model.specs.Reached.{IsReached};
 
 /// What holds of each world that steps lead to.
 pub fn safe<L>()
-    ensures { (r : Reading L) (partitions : ℕ) (w : World L) → IsReached r partitions w → Safe r partitions w }
+    ensures { (r : Reading L) (partitions : ℕ) (w : World L) → IsReached r partitions w →
+        Safe r partitions w }
 {}
 
 /// What each step does: nothing falls, and the greatest read version rises by one at a time, after rounds.
 pub fn moves<L>()
-    ensures { (r : Reading L) (partitions : ℕ) (w : World L) (s : Step L) → IsReached r partitions w → Moves r w (step r partitions w s) }
+    ensures { (r : Reading L) (partitions : ℕ) (w : World L) (s : Step L) →
+        IsReached r partitions w → Moves r w (step r partitions w s) }
 {}

@@ -40,7 +40,8 @@ impl Duty {
 /// Adds the events by which each node from the first one to node 6 does this.
 pub(crate) fn add_duties(events: &mut List<Event>, duty: Duty, first: u8) -> Result<(), Memory>
     requires node { first ≤ 7 }
-    ensures ok { OnOk result (events.new ≡ events.old ++ map (duty_of duty) (range_with_len first (7 - first))) }
+    ensures ok { OnOk result (events.new ≡ events.old ++ map (duty_of duty)
+        (range_with_len first (7 - first))) }
     ensures want { OnlyWant result }
 {
     for node in first..7 {

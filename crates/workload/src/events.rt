@@ -53,7 +53,9 @@ fn draw_size(numbers: &mut Numbers) -> u32
 }
 
 fn put(alloc: Global, numbers: &mut Numbers, node: u8, key: Bytes) -> Result<Event, Memory>
-    ensures event { IfOk result (λ e. e ≡ event.Put node pics key (size_of numbers.old.state) (draw numbers.old.state 3 251)) }
+    ensures event { IfOk result
+        (λ e. e ≡ event.Put node pics key (size_of numbers.old.state)
+        (draw numbers.old.state 3 251)) }
     ensures state { numbers.new.state ≡ after numbers.old.state 3 }
     ensures want { OnlyWant result }
 {
@@ -69,7 +71,8 @@ fn put(alloc: Global, numbers: &mut Numbers, node: u8, key: Bytes) -> Result<Eve
 }
 
 fn copy(alloc: Global, numbers: &mut Numbers, node: u8, from_key: Bytes) -> Result<Event, Memory>
-    ensures event { IfOk result (λ e. e ≡ event.Copy node pics from_key pics (key_of (draw numbers.old.state 1 16))) }
+    ensures event { IfOk result
+        (λ e. e ≡ event.Copy node pics from_key pics (key_of (draw numbers.old.state 1 16))) }
     ensures state { numbers.new.state ≡ after numbers.old.state 1 }
     ensures want { OnlyWant result }
 {
@@ -95,7 +98,8 @@ fn choose(
     requires some { 0 < count }
     requires few { count < 2 ^ 32 }
     ensures event { IfOk result (λ e. e ≡ (chosen c node key count numbers.old.state).event) }
-    ensures state { OnOk result (numbers.new.state ≡ (chosen c node key count numbers.old.state).state) }
+    ensures state { OnOk result
+        (numbers.new.state ≡ (chosen c node key count numbers.old.state).state) }
     ensures want { OnlyWant result }
 {
     match c {

@@ -20,8 +20,10 @@ fn add_plain_turn(
 ) -> Result<(), Memory>
     requires some { 0 < length events.old }
     requires few { length events.old < 2 ^ 32 }
-    ensures events { OnOk result (events.new ≡ events.old ++ (plain_turn numbers.old.state (length events.old)).events) }
-    ensures state { OnOk result (numbers.new.state ≡ (plain_turn numbers.old.state (length events.old)).state) }
+    ensures events { OnOk result
+        (events.new ≡ events.old ++ (plain_turn numbers.old.state (length events.old)).events) }
+    ensures state { OnOk result
+        (numbers.new.state ≡ (plain_turn numbers.old.state (length events.old)).state) }
     ensures want { OnlyWant result }
 {
     let event = draw_event(alloc, events.len() as u64, numbers)?;
@@ -39,8 +41,10 @@ pub(crate) fn add_turn(
 ) -> Result<(), Memory>
     requires some { 0 < length events.old }
     requires few { length events.old < 2 ^ 32 }
-    ensures events { OnOk result (events.new ≡ events.old ++ (turn_of turn numbers.old.state (length events.old)).events) }
-    ensures state { OnOk result (numbers.new.state ≡ (turn_of turn numbers.old.state (length events.old)).state) }
+    ensures events { OnOk result
+        (events.new ≡ events.old ++ (turn_of turn numbers.old.state (length events.old)).events) }
+    ensures state { OnOk result
+        (numbers.new.state ≡ (turn_of turn numbers.old.state (length events.old)).state) }
     ensures want { OnlyWant result }
 {
     if turn % 250 == 0 {

@@ -27,10 +27,15 @@ pub struct Workload {
 /// Replays the schedule of a workload, and writes the summary.
 fn replayed<O: Sink>(alloc: Global, workload: Workload, output: &mut O) -> Result<(), ReplayStop>
     requires few { workload.count ≤ 100000 }
-    ensures whole { OnOk result (IsWhole (Account.Summary workload.count workload.seed) (schedule workload.count workload.seed) (O.written output.old) (O.written output.new)) }
-    ensures halts { IfErr result (λ stop. Halts (Account.Summary workload.count workload.seed) (schedule workload.count workload.seed) stop (O.written output.old) (O.written output.new)) }
+    ensures whole { OnOk result (IsWhole (Account.Summary workload.count workload.seed)
+        (schedule workload.count workload.seed) (O.written output.old) (O.written output.new)) }
+    ensures halts { IfErr result
+        (λ stop. Halts (Account.Summary workload.count workload.seed)
+        (schedule workload.count workload.seed) stop (O.written output.old)
+        (O.written output.new)) }
     ensures room { result ≡ Err ReplayStop.Number → ⊥ }
-    ensures fault { result ≡ Err ReplayStop.Write → Rose (O.faults output.old) (O.faults output.new) }
+    ensures fault { result ≡ Err ReplayStop.Write →
+        Rose (O.faults output.old) (O.faults output.new) }
     ensures counted { O.faults output.old ≤ O.faults output.new }
     ensures told { (result ≡ Err ReplayStop.Write) ⊎ (O.faults output.new ≡ O.faults output.old) }
 {
@@ -45,10 +50,16 @@ fn replayed<O: Sink>(alloc: Global, workload: Workload, output: &mut O) -> Resul
 
 /// Says why a replay gave up, where that is said in the output.
 fn stopped<O: Sink>(output: &mut O, stop: ReplayStop) -> Status
-    ensures number { stop ≡ ReplayStop.Number → Ends Status.Limit number_line result (O.written output.old) (O.written output.new) (O.faults output.old) (O.faults output.new) }
-    ensures sent { stop ≡ ReplayStop.Sent → Ends Status.Limit sent_line result (O.written output.old) (O.written output.new) (O.faults output.old) (O.faults output.new) }
-    ensures write { stop ≡ ReplayStop.Write → (result ≡ Status.WriteFault) × (output.new ≡ output.old) }
-    ensures memory { stop ≡ ReplayStop.Memory → (result ≡ Status.Memory) × (output.new ≡ output.old) }
+    ensures number { stop ≡ ReplayStop.Number →
+        Ends Status.Limit number_line result (O.written output.old) (O.written output.new)
+        (O.faults output.old) (O.faults output.new) }
+    ensures sent { stop ≡ ReplayStop.Sent →
+        Ends Status.Limit sent_line result (O.written output.old) (O.written output.new)
+        (O.faults output.old) (O.faults output.new) }
+    ensures write { stop ≡ ReplayStop.Write → (result ≡ Status.WriteFault) ×
+        (output.new ≡ output.old) }
+    ensures memory { stop ≡ ReplayStop.Memory → (result ≡ Status.Memory) ×
+        (output.new ≡ output.old) }
     ensures counted { O.faults output.old ≤ O.faults output.new }
     ensures told { (result ≡ Status.WriteFault) ⊎ (O.faults output.new ≡ O.faults output.old) }
     ensures statuses { IsOfWorkload result }
@@ -64,7 +75,8 @@ fn stopped<O: Sink>(output: &mut O, stop: ReplayStop) -> Status
 /// Replays a workload, and says how that ended.
 fn summarized<O: Sink>(alloc: Global, workload: Workload, output: &mut O) -> Status
     requires few { workload.count ≤ 100000 }
-    ensures writes { Writes O.Sink (IsAnswer workload.count workload.seed) result output.old output.new }
+    ensures writes { Writes O.Sink
+        (IsAnswer workload.count workload.seed) result output.old output.new }
     ensures statuses { IsOfWorkload result }
 {
     match replayed(alloc, workload, output) {

@@ -7,7 +7,8 @@ use replay_run::every_replay_ends;
 
 /// For each workload an answer is stated: its schedule is within the limits, and a replay of one has a stated end.
 pub fn some_workload_is_stated()
-    ensures { (count seed : ℕ) → count ≤ 100000 → (status : Status) × ((text : List ℕ) × IsAnswer count seed status text) }
+    ensures { (count seed : ℕ) → count ≤ 100000 → (status : Status) ×
+        ((text : List ℕ) × IsAnswer count seed status text) }
 {
     every_replay_ends();
 }

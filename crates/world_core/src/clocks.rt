@@ -25,7 +25,8 @@ impl Clocks {
 
     /// The node's clock.
     pub fn now(&self, node: u8) -> u64
-        ensures { (time : ℕ) (skew_of : ℕ → ℕ) → AreClocks self.now time skew_of → result ≡ time + skew_of node }
+        ensures { (time : ℕ) (skew_of : ℕ → ℕ) → AreClocks self.now time skew_of →
+            result ≡ time + skew_of node }
     {
         let skew = self.skews[usize::from(node)];
         self.time.checked_add(skew).unwrap_or(u64::MAX)
@@ -33,8 +34,11 @@ impl Clocks {
 
     /// Adds to the time.
     pub fn tick(&mut self, ms: u64) -> Result<(), Memory>
-        ensures ticked { OnOk result ((time : ℕ) (skew_of : ℕ → ℕ) → AreClocks self.old time skew_of → AreClocks self.new (time + ms) skew_of) }
-        ensures full { IfErr result (λ e. (e ≡ Full) × ((time : ℕ) (skew_of : ℕ → ℕ) → AreClocks self.old time skew_of → NoneLate (time + ms) skew_of → ⊥)) }
+        ensures ticked { OnOk result ((time : ℕ) (skew_of : ℕ → ℕ) →
+            AreClocks self.old time skew_of → AreClocks self.new (time + ms) skew_of) }
+        ensures full { IfErr result (λ e. (e ≡ Full) ×
+            ((time : ℕ) (skew_of : ℕ → ℕ) → AreClocks self.old time skew_of →
+            NoneLate (time + ms) skew_of → ⊥)) }
     {
         let Some(time) = self.time.checked_add(ms) else {
             return Err(Memory::Full);
@@ -50,8 +54,12 @@ impl Clocks {
 
     /// Sets by how much a node's clock is ahead of the time.
     pub fn skew(&mut self, node: u8, ms: u64) -> Result<(), Memory>
-        ensures skewed { OnOk result ((time : ℕ) (skew_of : ℕ → ℕ) → AreClocks self.old time skew_of → AreClocks self.new time (λ n. cond (n == node) ms (skew_of n))) }
-        ensures full { IfErr result (λ e. (e ≡ Full) × ((time : ℕ) (skew_of : ℕ → ℕ) → AreClocks self.old time skew_of → NoneLate time (λ n. cond (n == node) ms (skew_of n)) → ⊥)) }
+        ensures skewed { OnOk result ((time : ℕ) (skew_of : ℕ → ℕ) →
+            AreClocks self.old time skew_of →
+            AreClocks self.new time (λ n. cond (n == node) ms (skew_of n))) }
+        ensures full { IfErr result (λ e. (e ≡ Full) ×
+            ((time : ℕ) (skew_of : ℕ → ℕ) → AreClocks self.old time skew_of →
+            NoneLate time (λ n. cond (n == node) ms (skew_of n)) → ⊥)) }
     {
         if self.time.checked_add(ms).is_none() {
             return Err(Memory::Full);

@@ -38,8 +38,11 @@ impl<S: Schema> Nodes<S> {
         requires inhabited { IsTrue (has_members first.now) }
         requires unused { KnowNone S.Row.join S.words self.old }
         requires each_once { IsDistinct nat_eq nodes.now }
-        ensures installed { OnOk result ((xs : ℕ → Model S.Row Layout) → AreNodes S.Row.join S.words self.old xs → AreNodes S.Row.join S.words self.new (given_to nodes.now first.now xs)) }
-        ensures unchanged { OnErr result ((xs : ℕ → Model S.Row Layout) → AreNodes S.Row.join S.words self.old xs → AreNodes S.Row.join S.words self.new xs) }
+        ensures installed { OnOk result ((xs : ℕ → Model S.Row Layout) →
+            AreNodes S.Row.join S.words self.old xs →
+            AreNodes S.Row.join S.words self.new (given_to nodes.now first.now xs)) }
+        ensures unchanged { OnErr result ((xs : ℕ → Model S.Row Layout) →
+            AreNodes S.Row.join S.words self.old xs → AreNodes S.Row.join S.words self.new xs) }
         ensures want { OnlyWant result }
     {
         let prepared = self.prepare_all(first, nodes)?;
@@ -52,7 +55,8 @@ impl<S: Schema> Nodes<S> {
         requires version { first.now.version ≡ 1 }
         requires inhabited { IsTrue (has_members first.now) }
         requires unused { KnowNone S.Row.join S.words self.old }
-        ensures same { (xs : ℕ → Model S.Row Layout) → AreNodes S.Row.join S.words self.old xs → AreNodes S.Row.join S.words self.new xs }
+        ensures same { (xs : ℕ → Model S.Row Layout) → AreNodes S.Row.join S.words self.old xs →
+            AreNodes S.Row.join S.words self.new xs }
         ensures there { StayThere self.old self.new }
         ensures prepared { IfOk result (λ one. IsPrepared self.new first.now one) }
         ensures node { IfOk result (λ one. one.node ≡ node) }
@@ -71,8 +75,10 @@ impl<S: Schema> Nodes<S> {
         requires version { first.now.version ≡ 1 }
         requires inhabited { IsTrue (has_members first.now) }
         requires unused { KnowNone S.Row.join S.words self.old }
-        ensures same { (xs : ℕ → Model S.Row Layout) → AreNodes S.Row.join S.words self.old xs → AreNodes S.Row.join S.words self.new xs }
-        ensures prepared { IfOk result (λ all. AllByRecursion (IsPrepared self.new first.now) all.items) }
+        ensures same { (xs : ℕ → Model S.Row Layout) → AreNodes S.Row.join S.words self.old xs →
+            AreNodes S.Row.join S.words self.new xs }
+        ensures prepared { IfOk result
+            (λ all. AllByRecursion (IsPrepared self.new first.now) all.items) }
         ensures nodes { IfOk result (λ all. map (λ one. one.node) all.items ≡ nodes.now) }
         ensures want { OnlyWant result }
     {
@@ -85,8 +91,10 @@ impl<S: Schema> Nodes<S> {
 
     // The node gets the view that was made for it.
     fn show(&mut self, one: Prepared)
-        ensures shown { (first : Layout) → first.version ≡ 1 → IsPrepared self.old first one → BecomesAt S.Row.join S.words self.old self.new one.node (λ x. appends layouts x first) }
-        ensures others { (m : ℕ) → (m == one.node) ≡ false → get nat_cmp self.new.by_number m ≡ get nat_cmp self.old.by_number m }
+        ensures shown { (first : Layout) → first.version ≡ 1 → IsPrepared self.old first one →
+            BecomesAt S.Row.join S.words self.old self.new one.node (λ x. appends layouts x first) }
+        ensures others { (m : ℕ) → (m == one.node) ≡ false →
+            get nat_cmp self.new.by_number m ≡ get nat_cmp self.old.by_number m }
     {
         if let Some(found) = self.by_number.get_mut(&one.node) {
             found.show(one.view);
@@ -95,7 +103,9 @@ impl<S: Schema> Nodes<S> {
 
     // And so does each of these nodes.
     fn show_all(&mut self, all: Vec<Prepared>)
-        ensures { (first : Layout) → first.version ≡ 1 → AllByRecursion (IsPrepared self.old first) all.items → IsDistinct nat_eq (map (λ one. one.node) all.items) →
+        ensures { (first : Layout) → first.version ≡ 1 →
+            AllByRecursion (IsPrepared self.old first) all.items →
+            IsDistinct nat_eq (map (λ one. one.node) all.items) →
             (xs : ℕ → Model S.Row Layout) → AreNodes S.Row.join S.words self.old xs → AreNodes S.Row.join S.words self.new (given_to (map (λ one. one.node) all.items) first xs) }
     {
         for one in all {

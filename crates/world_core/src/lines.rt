@@ -56,7 +56,8 @@ pub fn push_dropped(
 
 /// Says that a node raised its own sync, where it rose.
 pub fn push_synced(lines: &mut List<Line>, node: u8, before: u32, after: u32) -> Result<(), Memory>
-    ensures pushed { OnOk result (lines.new ≡ lines.old ++ cond (leb after before) [] (Synced node after ∷ [])) }
+    ensures pushed { OnOk result (lines.new ≡ lines.old ++ cond (leb after before) []
+        (Synced node after ∷ [])) }
     ensures want { OnlyWant result }
 {
     if before < after {

@@ -62,7 +62,8 @@ impl<S: Schema> Nodes<S> {
 
     // A node with this number is there. Whatever is answered the nodes stand for the same.
     pub fn ready(&mut self, node: u8) -> Result<(), Memory>
-        ensures same { (xs : ℕ → Model S.Row Layout) → AreNodes S.Row.join S.words self.old xs → AreNodes S.Row.join S.words self.new xs }
+        ensures same { (xs : ℕ → Model S.Row Layout) → AreNodes S.Row.join S.words self.old xs →
+            AreNodes S.Row.join S.words self.new xs }
         ensures there { StayThere self.old self.new }
         ensures present { OnOk result (IsSome (get nat_cmp self.new.by_number node)) }
         ensures newest { OnOk result (newest_in self.new node ≡ newest_in self.old node) }
@@ -78,7 +79,8 @@ impl<S: Schema> Nodes<S> {
     /// The newest layout version that the node knows, 0 where it knows none.
     pub fn newest(&self, node: u8) -> u32
         ensures known { result ≡ newest_in self.now node }
-        ensures is { (xs : ℕ → Model S.Row Layout) → AreNodes S.Row.join S.words self.now xs → result ≡ newest reading (xs node).view }
+        ensures is { (xs : ℕ → Model S.Row Layout) → AreNodes S.Row.join S.words self.now xs →
+            result ≡ newest reading (xs node).view }
     {
         match self.by_number.get(&node) {
             Some(found) => found.view().newest(),
@@ -88,7 +90,8 @@ impl<S: Schema> Nodes<S> {
 
     /// Whether the node has a role in its newest version.
     pub fn is_member(&self, node: u8) -> bool
-        ensures { (xs : ℕ → Model S.Row Layout) → AreNodes S.Row.join S.words self.now xs → result ≡ is_member layouts (xs node).view node }
+        ensures { (xs : ℕ → Model S.Row Layout) → AreNodes S.Row.join S.words self.now xs →
+            result ≡ is_member layouts (xs node).view node }
     {
         match self.by_number.get(&node) {
             Some(found) => knows_member(found.view(), node),
@@ -108,7 +111,8 @@ impl<S: Schema> Nodes<S> {
 
     /// The node's whole view, to be sent.
     pub fn shown(&self, node: u8) -> Result<Packet<S::Row>, Memory>
-        ensures shown { IfOk result (λ packet. (xs : ℕ → Model S.Row Layout) → AreNodes S.Row.join S.words self.now xs → told packet ≡ shows (xs node).view) }
+        ensures shown { IfOk result (λ packet. (xs : ℕ → Model S.Row Layout) →
+            AreNodes S.Row.join S.words self.now xs → told packet ≡ shows (xs node).view) }
         ensures want { OnlyWant result }
     {
         let view = match self.by_number.get(&node) {
@@ -120,8 +124,12 @@ impl<S: Schema> Nodes<S> {
 
     /// What the node shows of itself; None where it knows no layout version.
     pub fn line(&self, node: u8) -> Result<Option<NodeLine>, Memory>
-        ensures rows { IfOk result (λ line. (xs : ℕ → Model S.Row Layout) → AreNodes S.Row.join S.words self.now xs → IsLineOf S.Row.join S.words node (xs node) line) }
-        ensures causes { WantOr result ((xs : ℕ → Model S.Row Layout) → AreNodes S.Row.join S.words self.now xs → IsTrue (any_unspelled S.words (rows S.Row.join S.words (xs node).accepted))) }
+        ensures rows { IfOk result (λ line. (xs : ℕ → Model S.Row Layout) →
+            AreNodes S.Row.join S.words self.now xs →
+            IsLineOf S.Row.join S.words node (xs node) line) }
+        ensures causes { WantOr result ((xs : ℕ → Model S.Row Layout) →
+            AreNodes S.Row.join S.words self.now xs →
+            IsTrue (any_unspelled S.words (rows S.Row.join S.words (xs node).accepted))) }
     {
         match self.by_number.get(&node) {
             None => Ok(None),
@@ -142,7 +150,9 @@ impl<S: Schema> Nodes<S> {
 
     /// A request begins at the node, with a number above those that are open there. False where the node is no member.
     pub fn open(&mut self, node: u8, request: u64) -> Result<bool, Memory>
-        ensures opens { IfOk result (λ member. (xs : ℕ → Model S.Row Layout) → AreNodes S.Row.join S.words self.old xs → All (λ c. c.request < request) (xs node).calls →
+        ensures opens { IfOk result (λ member. (xs : ℕ → Model S.Row Layout) →
+            AreNodes S.Row.join S.words self.old xs →
+            All (λ c. c.request < request) (xs node).calls →
             Opens S.Row.join S.words self.new node request xs member) }
         ensures want { OnlyWant result }
     {
@@ -166,10 +176,16 @@ impl<S: Schema> Nodes<S> {
         out: &mut Vec<Envelope<S::Row>>,
     ) -> Result<WithSync<()>, Memory>
         requires short { IsShort phase }
-        ensures before { IfOk result (λ given. IsSyncAt S.Row.join S.words self.old node given.before) }
-        ensures after { IfOk result (λ given. IsSyncAt S.Row.join S.words self.new node given.after) }
-        ensures begins { OnOk result ((kept : List S.Row) → DoesAt S.Row.join S.words self.old self.new node out.old.items out.new.items None (λ x. begins_at S.words kept x phase (call_at x.calls request))) }
-        ensures causes { WantOr result ((kept : List S.Row) → OverflowsAt S.Row.join S.words self.old node (λ x. begins_at S.words kept x phase (call_at x.calls request))) }
+        ensures before { IfOk result
+            (λ given. IsSyncAt S.Row.join S.words self.old node given.before) }
+        ensures after { IfOk result
+            (λ given. IsSyncAt S.Row.join S.words self.new node given.after) }
+        ensures begins { OnOk result ((kept : List S.Row) →
+            DoesAt S.Row.join S.words self.old self.new node out.old.items out.new.items None
+            (λ x. begins_at S.words kept x phase (call_at x.calls request))) }
+        ensures causes { WantOr result ((kept : List S.Row) →
+            OverflowsAt S.Row.join S.words self.old node
+            (λ x. begins_at S.words kept x phase (call_at x.calls request))) }
     {
         self.ready(node)?;
         let Some(found) = self.by_number.get_mut(&node) else {
@@ -202,11 +218,21 @@ impl<S: Schema> Nodes<S> {
         out: &mut Vec<Envelope<S::Row>>,
     ) -> Result<WithSync<Received<S::Row>>, Memory>
         requires stocked { PacketCarriesBlocks (blake2b 32) S.words (told envelope.now.packet) }
-        ensures before { IfOk result (λ given. IsSyncAt S.Row.join S.words self.old envelope.now.to given.before) }
-        ensures after { IfOk result (λ given. IsSyncAt S.Row.join S.words self.new envelope.now.to given.after) }
-        ensures receives { IfOk result (λ given. DoesAt S.Row.join S.words self.old self.new envelope.now.to out.old.items out.new.items given.answer.ended (λ x. receives S.Row.join S.words layouts envelope.now.to now x envelope.now.from (told envelope.now.packet))) }
-        ensures dropped { IfOk result (λ given. DropsAt S.Row.join S.words self.old envelope.now.to given.answer.dropped (λ x. receives S.Row.join S.words layouts envelope.now.to now x envelope.now.from (told envelope.now.packet))) }
-        ensures causes { WantOr result (OverflowsAt S.Row.join S.words self.old envelope.now.to (λ x. receives S.Row.join S.words layouts envelope.now.to now x envelope.now.from (told envelope.now.packet))) }
+        ensures before { IfOk result
+            (λ given. IsSyncAt S.Row.join S.words self.old envelope.now.to given.before) }
+        ensures after { IfOk result
+            (λ given. IsSyncAt S.Row.join S.words self.new envelope.now.to given.after) }
+        ensures receives { IfOk result
+            (λ given. DoesAt S.Row.join S.words self.old self.new envelope.now.to out.old.items out.new.items given.answer.ended
+            (λ x. receives S.Row.join S.words layouts envelope.now.to now x envelope.now.from
+            (told envelope.now.packet))) }
+        ensures dropped { IfOk result
+            (λ given. DropsAt S.Row.join S.words self.old envelope.now.to given.answer.dropped
+            (λ x. receives S.Row.join S.words layouts envelope.now.to now x envelope.now.from
+            (told envelope.now.packet))) }
+        ensures causes { WantOr result (OverflowsAt S.Row.join S.words self.old envelope.now.to
+            (λ x. receives S.Row.join S.words layouts envelope.now.to now x envelope.now.from
+            (told envelope.now.packet))) }
     {
         self.ready(envelope.to)?;
         let Some(found) = self.by_number.get_mut(&envelope.to) else {
@@ -232,10 +258,15 @@ impl<S: Schema> Nodes<S> {
         out: &mut Vec<Envelope<S::Row>>,
     ) -> Result<WithSync<LocalEnd>, Memory>
         requires has_version { 1 ≤ newest_in self.old node }
-        ensures before { IfOk result (λ given. IsSyncAt S.Row.join S.words self.old node given.before) }
-        ensures after { IfOk result (λ given. IsSyncAt S.Row.join S.words self.new node given.after) }
-        ensures acts { IfOk result (λ given. ActsAt S.Row.join S.words self.old self.new node out.old.items out.new.items given.answer (λ x. acts S.Row.join S.words layouts node now x action)) }
-        ensures causes { WantOr result (OverflowsAt S.Row.join S.words self.old node (λ x. (acts S.Row.join S.words layouts node now x action).did)) }
+        ensures before { IfOk result
+            (λ given. IsSyncAt S.Row.join S.words self.old node given.before) }
+        ensures after { IfOk result
+            (λ given. IsSyncAt S.Row.join S.words self.new node given.after) }
+        ensures acts { IfOk result
+            (λ given. ActsAt S.Row.join S.words self.old self.new node out.old.items out.new.items given.answer
+            (λ x. acts S.Row.join S.words layouts node now x action)) }
+        ensures causes { WantOr result (OverflowsAt S.Row.join S.words self.old node
+            (λ x. (acts S.Row.join S.words layouts node now x action).did)) }
     {
         self.ready(node)?;
         let Some(found) = self.by_number.get_mut(&node) else {
@@ -255,7 +286,8 @@ impl<S: Schema> Nodes<S> {
     pub fn append(&mut self, node: u8, layout: Layout) -> Result<(), Memory>
         requires next { layout.version ≡ newest_in self.old node + 1 }
         requires inhabited { IsTrue (has_members layout) }
-        ensures appends { OnOk result (BecomesAt S.Row.join S.words self.old self.new node (λ x. appends layouts x layout)) }
+        ensures appends { OnOk result (BecomesAt S.Row.join S.words self.old self.new node
+            (λ x. appends layouts x layout)) }
         ensures want { OnlyWant result }
     {
         self.ready(node)?;
@@ -268,8 +300,11 @@ impl<S: Schema> Nodes<S> {
 
     /// The node loses what it keeps in memory alone. Its requests, ascending.
     pub fn restart(&mut self, node: u8) -> Result<Vec<u64>, Memory>
-        ensures restarts { OnOk result (BecomesAt S.Row.join S.words self.old self.new node (λ x. restarts x)) }
-        ensures lost { IfOk result (λ lost. (xs : ℕ → Model S.Row Layout) → AreNodes S.Row.join S.words self.old xs → lost.items ≡ reverse (requests_of (xs node).calls)) }
+        ensures restarts { OnOk result (BecomesAt S.Row.join S.words self.old self.new node
+            (λ x. restarts x)) }
+        ensures lost { IfOk result (λ lost. (xs : ℕ → Model S.Row Layout) →
+            AreNodes S.Row.join S.words self.old xs →
+            lost.items ≡ reverse (requests_of (xs node).calls)) }
         ensures want { OnlyWant result }
     {
         self.ready(node)?;

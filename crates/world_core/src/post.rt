@@ -93,14 +93,16 @@ impl<R: Drop> Post<R> {
 
     /// How many messages were sent.
     pub fn sent(&self) -> u64
-        ensures { (s : Words R) (messages : List (Sent R Layout)) (marks : List Mark) → IsPost s self.now messages marks → result ≡ length messages }
+        ensures { (s : Words R) (messages : List (Sent R Layout)) (marks : List Mark) →
+            IsPost s self.now messages marks → result ≡ length messages }
     {
         self.sent
     }
 
     /// The least number of a message that was neither delivered nor lost.
     pub fn undelivered(&self) -> Option<u64>
-        ensures { (s : Words R) (messages : List (Sent R Layout)) (marks : List Mark) → IsPost s self.now messages marks → result ≡ first_waiting 1 marks }
+        ensures { (s : Words R) (messages : List (Sent R Layout)) (marks : List Mark) →
+            IsPost s self.now messages marks → result ≡ first_waiting 1 marks }
     {
         if self.first < self.slots.len() {
             let later = self.slots.len() - self.first - 1;
@@ -126,8 +128,12 @@ impl<R: Drop> Post<R> {
 
     /// The message with this number, or that there is none, or that it was lost.
     pub fn get(&self, number: u64) -> Result<&Envelope<R>, Refusal>
-        ensures found { IfOk result (λ e. (s : Words R) (messages : List (Sent R Layout)) (marks : List Mark) → IsPost s self.now messages marks → IsFound number messages marks e.now) }
-        ensures missing { IfErr result (λ why. (s : Words R) (messages : List (Sent R Layout)) (marks : List Mark) → IsPost s self.now messages marks → IsMissing number messages marks why) }
+        ensures found { IfOk result
+            (λ e. (s : Words R) (messages : List (Sent R Layout)) (marks : List Mark) →
+            IsPost s self.now messages marks → IsFound number messages marks e.now) }
+        ensures missing { IfErr result
+            (λ why. (s : Words R) (messages : List (Sent R Layout)) (marks : List Mark) →
+            IsPost s self.now messages marks → IsMissing number messages marks why) }
     {
         if number < 1 || number > self.sent {
             return Err(Refusal::NoSuchMessage);
@@ -143,7 +149,9 @@ impl<R: Drop> Post<R> {
 
     /// A message that wasn't lost is delivered.
     pub fn deliver(&mut self, number: u64)
-        ensures { (s : Words R) (messages : List (Sent R Layout)) (marks : List Mark) (mark : Mark) → IsPost s self.old messages marks → numbered marks number ≡ Some mark → mark.is_lost ≡ false →
+        ensures { (s : Words R) (messages : List (Sent R Layout)) (marks : List Mark)
+            (mark : Mark) → IsPost s self.old messages marks → numbered marks number ≡ Some mark →
+            mark.is_lost ≡ false →
             IsPost s self.new messages (marked marks (Some (number, record { is_delivered = true; is_lost = false }))) }
     {
         let Some(place) = self.place(number) else {
@@ -155,7 +163,8 @@ impl<R: Drop> Post<R> {
 
     /// A message is lost: it can't be delivered any more.
     pub fn lose(&mut self, number: u64)
-        ensures { (s : Words R) (messages : List (Sent R Layout)) (marks : List Mark) (mark : Mark) → IsPost s self.old messages marks → numbered marks number ≡ Some mark →
+        ensures { (s : Words R) (messages : List (Sent R Layout)) (marks : List Mark)
+            (mark : Mark) → IsPost s self.old messages marks → numbered marks number ≡ Some mark →
             IsPost s self.new messages (marked marks (Some (number, record { is_delivered = false; is_lost = true }))) }
     {
         let Some(place) = self.place(number) else {
@@ -170,7 +179,8 @@ impl<R: Drop> Post<R> {
     /// A delivered message counts as lost from here on, and its room is given back; all before the first that waits are
     /// over, and take none.
     pub fn forget_delivered(&mut self)
-        ensures { (s : Words R) (messages : List (Sent R Layout)) (marks : List Mark) → IsPost s self.old messages marks → IsPost s self.new messages (map forgot marks) }
+        ensures { (s : Words R) (messages : List (Sent R Layout)) (marks : List Mark) →
+            IsPost s self.old messages marks → IsPost s self.new messages (map forgot marks) }
     {
         drop_front(&mut self.slots, self.first);
         forget_each(&mut self.slots);
@@ -184,10 +194,15 @@ pub fn send<S: Schema>(
     envelopes: Vec<Envelope<S::Row>>,
     lines: &mut List<Line>,
 ) -> Result<(), Memory>
-    ensures sent { OnOk result ((messages : List (Sent S.Row Layout)) (marks : List Mark) (sent : List (Sent S.Row Layout)) → IsPost S.words post.old messages marks → AreSent envelopes.items sent →
+    ensures sent { OnOk result ((messages : List (Sent S.Row Layout)) (marks : List Mark)
+        (sent : List (Sent S.Row Layout)) → IsPost S.words post.old messages marks →
+        AreSent envelopes.items sent →
         IsPost S.words post.new (messages ++ sent) (marks ++ not_yet sent)) }
-    ensures told { OnOk result ((messages : List (Sent S.Row Layout)) (marks : List Mark) → IsPost S.words post.old messages marks → lines.new ≡ lines.old ++ lines_from (suc (length messages)) envelopes.items) }
-    ensures causes { WantOr result ((messages : List (Sent S.Row Layout)) (marks : List Mark) (sent : List (Sent S.Row Layout)) →
+    ensures told { OnOk result ((messages : List (Sent S.Row Layout)) (marks : List Mark) →
+        IsPost S.words post.old messages marks →
+        lines.new ≡ lines.old ++ lines_from (suc (length messages)) envelopes.items) }
+    ensures causes { WantOr result ((messages : List (Sent S.Row Layout)) (marks : List Mark)
+        (sent : List (Sent S.Row Layout)) →
         IsPost S.words post.old messages marks → AreSent envelopes.items sent → IsWord (sent_bytes S.words (messages ++ sent)) → ⊥) }
 {
     for envelope in envelopes {
@@ -202,11 +217,14 @@ fn put<S: Schema>(
     envelope: Envelope<S::Row>,
     lines: &mut List<Line>,
 ) -> Result<(), Memory>
-    ensures sent { OnOk result ((messages : List (Sent S.Row Layout)) (marks : List Mark) (m : Sent S.Row Layout) → IsPost S.words post.old messages marks → IsSent envelope m →
+    ensures sent { OnOk result ((messages : List (Sent S.Row Layout)) (marks : List Mark)
+        (m : Sent S.Row Layout) → IsPost S.words post.old messages marks → IsSent envelope m →
         IsPost S.words post.new (messages ++ m ∷ []) (marks ++ not_yet (m ∷ []))) }
-    ensures told { OnOk result (lines.new ≡ lines.old ++ lines_from (suc post.old.sent) (envelope ∷ [])) }
+    ensures told { OnOk result (lines.new ≡ lines.old ++ lines_from (suc post.old.sent)
+        (envelope ∷ [])) }
     ensures more { OnOk result (post.new.sent ≡ suc post.old.sent) }
-    ensures causes { WantOr result ((messages : List (Sent S.Row Layout)) (marks : List Mark) (m : Sent S.Row Layout) →
+    ensures causes { WantOr result ((messages : List (Sent S.Row Layout)) (marks : List Mark)
+        (m : Sent S.Row Layout) →
         IsPost S.words post.old messages marks → IsSent envelope m → IsWord (sent_bytes S.words (messages ++ m ∷ [])) → ⊥) }
 {
     let Some(number) = post.sent.checked_add(1) else {
@@ -234,7 +252,8 @@ fn put<S: Schema>(
 
 /// The first place from `from` on whose message waits, where no one before it does.
 fn next_waiting<R: Drop>(slots: &VecDeque<Slot<R>>, from: usize) -> usize
-    ensures first { from ≤ length slots.now.items → AreGone slots.now.items from → IsFirst slots.now.items result }
+    ensures first { from ≤ length slots.now.items → AreGone slots.now.items from →
+        IsFirst slots.now.items result }
     ensures later { from ≤ result }
 {
     let mut first = from;

@@ -63,7 +63,8 @@ impl Requests {
 
     /// A request begins at its coordinator. Its number.
     pub fn begin(&mut self, coordinator: u8) -> Result<u64, Memory>
-        ensures begun { OnOk result (self.new ≡ self.old ++ record { coordinator = coordinator; is_open = true } ∷ []) }
+        ensures begun { OnOk result
+            (self.new ≡ self.old ++ record { coordinator = coordinator; is_open = true } ∷ []) }
         ensures number { IfOk result (λ number. number ≡ suc (length self.old)) }
         ensures small { IfOk result (λ number. number < 2 ^ 64) }
         ensures want { OnlyWant result }

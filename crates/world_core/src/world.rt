@@ -92,10 +92,12 @@ impl<S: Schema> World<S> {
     /// then on. Where memory is wanting the world is as before.
     pub fn install(&mut self, first: Layout, nodes: &[u8]) -> Result<(), Memory>
         requires stands { IsWorld S.Row.join S.words self.old }
-        requires unused { (w : Model S.Row) → StandsFor S.Row.join S.words self.old w → w.applied ≡ 0 }
+        requires unused { (w : Model S.Row) → StandsFor S.Row.join S.words self.old w →
+            w.applied ≡ 0 }
         requires greatest { IsFirst first }
         requires members { nodes.now ≡ reading.members first }
-        ensures installed { OnOk result (Turns S.Row.join S.words self.old self.new (λ w. installed S.Row.join S.words w first)) }
+        ensures installed { OnOk result (Turns S.Row.join S.words self.old self.new
+            (λ w. installed S.Row.join S.words w first)) }
         ensures unchanged { OnErr result (Turns S.Row.join S.words self.old self.new (λ w. w)) }
         ensures want { OnlyWant result }
     {
@@ -106,49 +108,56 @@ impl<S: Schema> World<S> {
 
     /// Whether the node has a role in its newest layout version.
     pub fn member(&self, node: u8) -> bool
-        ensures { (w : Model S.Row) → StandsFor S.Row.join S.words self.now w → result ≡ is_member_at layouts w node }
+        ensures { (w : Model S.Row) → StandsFor S.Row.join S.words self.now w →
+            result ≡ is_member_at layouts w node }
     {
         self.nodes.is_member(node)
     }
 
     /// The node's clock, in milliseconds.
     pub fn clock(&self, node: u8) -> u64
-        ensures { (w : Model S.Row) → StandsFor S.Row.join S.words self.now w → result ≡ clock w node }
+        ensures { (w : Model S.Row) → StandsFor S.Row.join S.words self.now w →
+            result ≡ clock w node }
     {
         self.clocks.now(node)
     }
 
     /// How many messages were sent.
     pub fn sent(&self) -> u64
-        ensures { (w : Model S.Row) → StandsFor S.Row.join S.words self.now w → result ≡ length w.messages }
+        ensures { (w : Model S.Row) → StandsFor S.Row.join S.words self.now w →
+            result ≡ length w.messages }
     {
         self.post.sent()
     }
 
     /// How many bytes the messages count that were sent.
     pub fn sent_bytes(&self) -> u64
-        ensures { (w : Model S.Row) → StandsFor S.Row.join S.words self.now w → sent_bytes S.words w.messages ≡ Some result }
+        ensures { (w : Model S.Row) → StandsFor S.Row.join S.words self.now w →
+            sent_bytes S.words w.messages ≡ Some result }
     {
         self.post.bytes
     }
 
     /// The least number of a message that was neither delivered nor lost.
     pub fn undelivered(&self) -> Option<u64>
-        ensures { (w : Model S.Row) → StandsFor S.Row.join S.words self.now w → result ≡ undelivered w }
+        ensures { (w : Model S.Row) → StandsFor S.Row.join S.words self.now w →
+            result ≡ undelivered w }
     {
         self.post.undelivered()
     }
 
     /// How many requests began.
     pub fn requests(&self) -> u64
-        ensures { (w : Model S.Row) → StandsFor S.Row.join S.words self.now w → result ≡ length w.requests }
+        ensures { (w : Model S.Row) → StandsFor S.Row.join S.words self.now w →
+            result ≡ length w.requests }
     {
         self.requests.len()
     }
 
     /// Whether the request with this number is open.
     pub fn is_open(&self, request: u64) -> bool
-        ensures { (w : Model S.Row) → StandsFor S.Row.join S.words self.now w → result ≡ option_map_or (λ found. found.is_open) (numbered w.requests request) false }
+        ensures { (w : Model S.Row) → StandsFor S.Row.join S.words self.now w →
+            result ≡ option_map_or (λ found. found.is_open) (numbered w.requests request) false }
     {
         match self.requests.get(request) {
             Some(found) => found.is_open,
@@ -158,8 +167,10 @@ impl<S: Schema> World<S> {
 
     /// The staged roles and redundancy.
     pub fn staged(&self) -> (&Roles, Redundancy)
-        ensures roles { (w : Model S.Row) → StandsFor S.Row.join S.words self.now w → result.0.now.list ≡ w.roles }
-        ensures redundancy { (w : Model S.Row) → StandsFor S.Row.join S.words self.now w → result.1 ≡ w.redundancy }
+        ensures roles { (w : Model S.Row) → StandsFor S.Row.join S.words self.now w →
+            result.0.now.list ≡ w.roles }
+        ensures redundancy { (w : Model S.Row) → StandsFor S.Row.join S.words self.now w →
+            result.1 ≡ w.redundancy }
     {
         (&self.roles, self.redundancy)
     }
@@ -173,8 +184,12 @@ impl<S: Schema> World<S> {
 
     /// What a node shows of itself, None where it knows no layout version.
     pub fn node_line(&self, node: u8) -> Result<Option<NodeLine>, Memory>
-        ensures line { IfOk result (λ line. (w : Model S.Row) → StandsFor S.Row.join S.words self.now w → option_map shown_line line ≡ node_line S.Row.join S.words layouts w node) }
-        ensures causes { WantOr result ((w : Model S.Row) → StandsFor S.Row.join S.words self.now w → IsTrue (any_unspelled S.words (rows S.Row.join S.words (w.nodes node).accepted))) }
+        ensures line { IfOk result (λ line. (w : Model S.Row) →
+            StandsFor S.Row.join S.words self.now w →
+            option_map shown_line line ≡ node_line S.Row.join S.words layouts w node) }
+        ensures causes { WantOr result ((w : Model S.Row) →
+            StandsFor S.Row.join S.words self.now w →
+            IsTrue (any_unspelled S.words (rows S.Row.join S.words (w.nodes node).accepted))) }
     {
         let line = self.nodes.line(node)?;
         Ok(line)
@@ -195,7 +210,8 @@ impl<S: Schema> World<S> {
         requires stands { IsWorld S.Row.join S.words self.old }
         requires meant { IsMeant step }
         requires stocked { StepBringsBlocks (blake2b 32) S.words step }
-        ensures steps { IfOk result (λ report. Steps S.Row.join S.words self.old self.new report step) }
+        ensures steps { IfOk result
+            (λ report. Steps S.Row.join S.words self.old self.new report step) }
         ensures causes { WantOr result (Overflows S.Row.join S.words self.old step) }
     {
         match step {
@@ -228,7 +244,8 @@ impl<S: Schema> World<S> {
     pub fn apply_with(&mut self, node: u8, shown: Applied) -> Result<Report<S::Row>, Memory>
         requires stands { IsWorld S.Row.join S.words self.old }
         requires greatest { IsGreatest shown.roles.list shown.certified.r shown.certified.size shown.certified.sets.sets }
-        ensures applies { IfOk result (λ report. Applies S.Row.join S.words self.old self.new report node shown) }
+        ensures applies { IfOk result
+            (λ report. Applies S.Row.join S.words self.old self.new report node shown) }
         ensures want { OnlyWant result }
     {
         let version = match self.next_version(node) {
@@ -245,7 +262,8 @@ impl<S: Schema> World<S> {
 
     // Why a step is refused, and nothing else.
     fn refused(&self, reason: Refusal) -> Report<S::Row>
-        ensures { result ≡ record { refused = Some reason; words = Empty; lines = []; ends = []; lost = [] } }
+        ensures { result ≡
+            record { refused = Some reason; words = Empty; lines = []; ends = []; lost = [] } }
     {
         Report {
             refused: Some(reason),
@@ -258,7 +276,8 @@ impl<S: Schema> World<S> {
 
     // What a step answers and tells.
     fn told(&self, words: Words, lines: List<Line>) -> Report<S::Row>
-        ensures { result ≡ record { refused = None; words = words; lines = lines; ends = []; lost = [] } }
+        ensures { result ≡
+            record { refused = None; words = words; lines = lines; ends = []; lost = [] } }
     {
         Report {
             refused: None,
@@ -271,7 +290,8 @@ impl<S: Schema> World<S> {
 
     // A step that answers and tells nothing.
     fn silent(&self) -> Report<S::Row>
-        ensures { result ≡ record { refused = None; words = Empty; lines = []; ends = []; lost = [] } }
+        ensures { result ≡
+            record { refused = None; words = Empty; lines = []; ends = []; lost = [] } }
     {
         self.told(Words::Empty, List::new(self.alloc))
     }
@@ -279,7 +299,8 @@ impl<S: Schema> World<S> {
     // Nodes 1, 2 and 3 get their layout as version 1.
     fn trio(&mut self) -> Result<Report<S::Row>, Memory>
         requires stands { IsWorld S.Row.join S.words self.old }
-        ensures plays { IfOk result (λ report. Plays S.Row.join S.words self.old self.new report step.Trio) }
+        ensures plays { IfOk result
+            (λ report. Plays S.Row.join S.words self.old self.new report step.Trio) }
         ensures want { OnlyWant result }
     {
         if self.applied >= 1 {
@@ -296,7 +317,8 @@ impl<S: Schema> World<S> {
     fn stage(&mut self, node: u8, role: Option<(Zone, Kind)>) -> Result<Report<S::Row>, Memory>
         requires low { 1 ≤ node }
         requires high { node ≤ 64 }
-        ensures plays { IfOk result (λ report. Plays S.Row.join S.words self.old self.new report (step.Role node role)) }
+        ensures plays { IfOk result
+            (λ report. Plays S.Row.join S.words self.old self.new report (step.Role node role)) }
         ensures want { OnlyWant result }
     {
         self.roles = staged(self.alloc, &self.roles, node, role)?;
@@ -305,7 +327,8 @@ impl<S: Schema> World<S> {
 
     fn spread(&mut self, wanted: Redundancy) -> Result<Report<S::Row>, Memory>
         requires { IsRedundancy wanted }
-        ensures plays { IfOk result (λ report. Plays S.Row.join S.words self.old self.new report (step.Redundancy wanted)) }
+        ensures plays { IfOk result
+            (λ report. Plays S.Row.join S.words self.old self.new report (step.Redundancy wanted)) }
         ensures want { OnlyWant result }
     {
         self.redundancy = wanted;
@@ -314,7 +337,8 @@ impl<S: Schema> World<S> {
 
     // A layout was applied, and the node has no role in its newest one.
     fn is_outside(&self, node: u8) -> bool
-        ensures { (w : Model S.Row) → StandsFor S.Row.join S.words self.now w → result ≡ (leb 1 w.applied && not (is_member_at layouts w node)) }
+        ensures { (w : Model S.Row) → StandsFor S.Row.join S.words self.now w →
+            result ≡ (leb 1 w.applied && not (is_member_at layouts w node)) }
     {
         self.applied >= 1 && !self.nodes.is_member(node)
     }
@@ -322,7 +346,8 @@ impl<S: Schema> World<S> {
     // The version of a layout that is applied at a node, or why it is refused.
     fn next_version(&self, node: u8) -> Result<u32, Refusal>
         requires stands { IsWorld S.Row.join S.words self.now }
-        ensures { (w : Model S.Row) → StandsFor S.Row.join S.words self.now w → result ≡ next_version w node }
+        ensures { (w : Model S.Row) → StandsFor S.Row.join S.words self.now w →
+            result ≡ next_version w node }
     {
         if self.is_outside(node) {
             return Err(Refusal::NotMember);
@@ -339,7 +364,8 @@ impl<S: Schema> World<S> {
 
     fn apply(&mut self, node: u8) -> Result<Report<S::Row>, Memory>
         requires stands { IsWorld S.Row.join S.words self.old }
-        ensures steps { IfOk result (λ report. Steps S.Row.join S.words self.old self.new report (step.Apply node)) }
+        ensures steps { IfOk result
+            (λ report. Steps S.Row.join S.words self.old self.new report (step.Apply node)) }
         ensures want { OnlyWant result }
     {
         if let Err(reason) = self.next_version(node) {
@@ -352,16 +378,20 @@ impl<S: Schema> World<S> {
     }
 
     fn tick(&mut self, ms: u64) -> Result<Report<S::Row>, Memory>
-        ensures plays { IfOk result (λ report. Plays S.Row.join S.words self.old self.new report (step.Tick ms)) }
-        ensures causes { IfErr result (λ e. (e ≡ Full) × Exceeds S.Row.join S.words self.old (step.Tick ms)) }
+        ensures plays { IfOk result
+            (λ report. Plays S.Row.join S.words self.old self.new report (step.Tick ms)) }
+        ensures causes { IfErr result (λ e. (e ≡ Full) ×
+            Exceeds S.Row.join S.words self.old (step.Tick ms)) }
     {
         self.clocks.tick(ms)?;
         Ok(self.silent())
     }
 
     fn skew(&mut self, node: u8, ms: u64) -> Result<Report<S::Row>, Memory>
-        ensures plays { IfOk result (λ report. Plays S.Row.join S.words self.old self.new report (step.Skew node ms)) }
-        ensures causes { IfErr result (λ e. (e ≡ Full) × Exceeds S.Row.join S.words self.old (step.Skew node ms)) }
+        ensures plays { IfOk result
+            (λ report. Plays S.Row.join S.words self.old self.new report (step.Skew node ms)) }
+        ensures causes { IfErr result (λ e. (e ≡ Full) ×
+            Exceeds S.Row.join S.words self.old (step.Skew node ms)) }
     {
         self.clocks.skew(node, ms)?;
         Ok(self.silent())
@@ -376,7 +406,8 @@ impl<S: Schema> World<S> {
         out: Vec<Envelope<S::Row>>,
         lines: &mut List<Line>,
     ) -> Result<(), Memory>
-        ensures tells { OnOk result (SendsOut S.Row.join S.words self.old self.new node before after out.items lines.old lines.new) }
+        ensures tells { OnOk result
+            (SendsOut S.Row.join S.words self.old self.new node before after out.items lines.old lines.new) }
         ensures causes { WantOr result (CannotSend S.words self.old out.items) }
     {
         send::<S>(&mut self.post, out, lines)?;
@@ -386,8 +417,10 @@ impl<S: Schema> World<S> {
 
     fn deliver(&mut self, message: u64) -> Result<Report<S::Row>, Memory>
         requires stands { IsWorld S.Row.join S.words self.old }
-        ensures plays { IfOk result (λ report. Plays S.Row.join S.words self.old self.new report (step.Deliver message)) }
-        ensures causes { WantOr result (Exceeds S.Row.join S.words self.old (step.Deliver message)) }
+        ensures plays { IfOk result
+            (λ report. Plays S.Row.join S.words self.old self.new report (step.Deliver message)) }
+        ensures causes { WantOr result (Exceeds S.Row.join S.words self.old
+            (step.Deliver message)) }
     {
         let envelope = match self.post.get(message) {
             Ok(envelope) => envelope,
@@ -408,7 +441,8 @@ impl<S: Schema> World<S> {
     }
 
     fn lose(&mut self, message: u64) -> Result<Report<S::Row>, Memory>
-        ensures plays { IfOk result (λ report. Plays S.Row.join S.words self.old self.new report (step.Lose message)) }
+        ensures plays { IfOk result
+            (λ report. Plays S.Row.join S.words self.old self.new report (step.Lose message)) }
         ensures want { OnlyWant result }
     {
         match self.post.get(message) {
@@ -422,7 +456,8 @@ impl<S: Schema> World<S> {
 
     // A request that is open ends without an answer.
     fn expire(&mut self, request: u64) -> Result<Report<S::Row>, Memory>
-        ensures plays { IfOk result (λ report. Plays S.Row.join S.words self.old self.new report (step.Expire request)) }
+        ensures plays { IfOk result
+            (λ report. Plays S.Row.join S.words self.old self.new report (step.Expire request)) }
         ensures want { OnlyWant result }
     {
         let Some(found) = self.requests.get(request) else {
@@ -442,7 +477,8 @@ impl<S: Schema> World<S> {
     }
 
     fn restart(&mut self, node: u8) -> Result<Report<S::Row>, Memory>
-        ensures plays { IfOk result (λ report. Plays S.Row.join S.words self.old self.new report (step.Restart node)) }
+        ensures plays { IfOk result
+            (λ report. Plays S.Row.join S.words self.old self.new report (step.Restart node)) }
         ensures want { OnlyWant result }
     {
         let lost = self.nodes.restart(node)?;
@@ -455,7 +491,8 @@ impl<S: Schema> World<S> {
 
     // A node sends its view to another.
     fn gossip(&mut self, from: u8, to: u8) -> Result<Report<S::Row>, Memory>
-        ensures plays { IfOk result (λ report. Plays S.Row.join S.words self.old self.new report (step.Gossip from to)) }
+        ensures plays { IfOk result
+            (λ report. Plays S.Row.join S.words self.old self.new report (step.Gossip from to)) }
         ensures causes { WantOr result (Exceeds S.Row.join S.words self.old (step.Gossip from to)) }
     {
         let packet = self.nodes.shown(from)?;
@@ -470,8 +507,11 @@ impl<S: Schema> World<S> {
     // A node does something by itself.
     fn acts(&mut self, node: u8, action: Action) -> Result<Report<S::Row>, Memory>
         requires has_version { 1 ≤ newest_in self.old.nodes node }
-        ensures plays { IfOk result (λ report. PlaysSo S.Row.join S.words self.old self.new report (acts_so S.Row.join S.words node action)) }
-        ensures causes { WantOr result (ExceedsSo S.Row.join S.words self.old (acts_so S.Row.join S.words node action)) }
+        ensures plays { IfOk result
+            (λ report. PlaysSo S.Row.join S.words self.old self.new report
+            (acts_so S.Row.join S.words node action)) }
+        ensures causes { WantOr result (ExceedsSo S.Row.join S.words self.old
+            (acts_so S.Row.join S.words node action)) }
     {
         let now = self.clocks.now(node);
         let mut out = Vec::new(self.alloc);
@@ -483,8 +523,11 @@ impl<S: Schema> World<S> {
 
     // The same, unless the node knows no layout version.
     fn local(&mut self, node: u8, action: Action) -> Result<Report<S::Row>, Memory>
-        ensures plays { IfOk result (λ report. PlaysSo S.Row.join S.words self.old self.new report (local_so S.Row.join S.words node action)) }
-        ensures causes { WantOr result (ExceedsSo S.Row.join S.words self.old (local_so S.Row.join S.words node action)) }
+        ensures plays { IfOk result
+            (λ report. PlaysSo S.Row.join S.words self.old self.new report
+            (local_so S.Row.join S.words node action)) }
+        ensures causes { WantOr result (ExceedsSo S.Row.join S.words self.old
+            (local_so S.Row.join S.words node action)) }
     {
         if self.nodes.newest(node) == 0 {
             return Ok(self.refused(Refusal::NotMember));
@@ -494,7 +537,8 @@ impl<S: Schema> World<S> {
     }
 
     fn repair(&mut self, node: u8) -> Result<Report<S::Row>, Memory>
-        ensures plays { IfOk result (λ report. Plays S.Row.join S.words self.old self.new report (step.Repair node)) }
+        ensures plays { IfOk result
+            (λ report. Plays S.Row.join S.words self.old self.new report (step.Repair node)) }
         ensures causes { WantOr result (Exceeds S.Row.join S.words self.old (step.Repair node)) }
     {
         if self.nodes.newest(node) == 0 || !self.nodes.is_member(node) {
@@ -506,7 +550,8 @@ impl<S: Schema> World<S> {
 
     // A request begins at a node, its coordinator.
     fn open(&mut self, node: u8) -> Result<Report<S::Row>, Memory>
-        ensures plays { IfOk result (λ report. Plays S.Row.join S.words self.old self.new report (step.Open node)) }
+        ensures plays { IfOk result
+            (λ report. Plays S.Row.join S.words self.old self.new report (step.Open node)) }
         ensures want { OnlyWant result }
     {
         if !self.nodes.is_member(node) {
@@ -521,8 +566,11 @@ impl<S: Schema> World<S> {
     fn phase(&mut self, request: u64, phase: Phase<S::Row>) -> Result<Report<S::Row>, Memory>
         requires short { IsShort phase }
         requires stocked { BringsBlocks (blake2b 32) S.words phase }
-        ensures plays { IfOk result (λ report. Plays S.Row.join S.words self.old self.new report (step.Phase request phase)) }
-        ensures causes { WantOr result (Exceeds S.Row.join S.words self.old (step.Phase request phase)) }
+        ensures plays { IfOk result
+            (λ report. Plays S.Row.join S.words self.old self.new report
+            (step.Phase request phase)) }
+        ensures causes { WantOr result (Exceeds S.Row.join S.words self.old
+            (step.Phase request phase)) }
     {
         let Some(found) = self.requests.get(request) else {
             return Ok(self.silent());
@@ -540,7 +588,8 @@ impl<S: Schema> World<S> {
 
     // A request that has its answer ends.
     fn close(&mut self, request: u64) -> Result<Report<S::Row>, Memory>
-        ensures plays { IfOk result (λ report. Plays S.Row.join S.words self.old self.new report (step.Close request)) }
+        ensures plays { IfOk result
+            (λ report. Plays S.Row.join S.words self.old self.new report (step.Close request)) }
         ensures want { OnlyWant result }
     {
         let Some(found) = self.requests.get(request) else {

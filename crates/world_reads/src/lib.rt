@@ -33,7 +33,9 @@ use world_laws::empty_world_is_sound;
 /// that were kept before it began: over every list of steps of a `World<S>`, in which each apply was given what is computed from the staged roles,
 /// where no two strings that are hashed for walks have one digest.
 pub fn every_world_has_kept_reads<S: Schema>()
-    ensures { (moves : List (Doing S.Row)) → IsLawfulRun S.Row.join S.words empty moves → NoClash (RunHashes S.words S.Row.join layouts trio stage_trio empty moves) → KeptReads S.Row.join S.words (run S.Row.join S.words empty moves) }
+    ensures { (moves : List (Doing S.Row)) → IsLawfulRun S.Row.join S.words empty moves →
+        NoClash (RunHashes S.words S.Row.join layouts trio stage_trio empty moves) →
+        KeptReads S.Row.join S.words (run S.Row.join S.words empty moves) }
 {
     empty_world_is_sound::<S::Row>();
     every_run_has_kept_reads::<S::Row, Layout, Applied, Cut>();
@@ -62,8 +64,11 @@ pub fn every_world_gives_windows<S: Schema>()
 /// Each row that a node accepted is proper, in every world to which lawful steps lead, from the empty one and from one with
 /// an installed layout.
 pub fn every_world_has_proper_rows<S: Schema>()
-    ensures from_empty { (moves : List (Doing S.Row)) → IsLawfulRun S.Row.join S.words empty moves → (n : ℕ) → AllProper S.words ((run S.Row.join S.words empty moves).nodes n).accepted }
-    ensures from_installed { (before : List (Doing S.Row)) (first : Layout) (after : List (Doing S.Row)) → IsLawfulStart S.Row.join S.words before first → IsLawfulRun S.Row.join S.words (start S.Row.join S.words before first) after →
+    ensures from_empty { (moves : List (Doing S.Row)) → IsLawfulRun S.Row.join S.words empty moves →
+        (n : ℕ) → AllProper S.words ((run S.Row.join S.words empty moves).nodes n).accepted }
+    ensures from_installed { (before : List (Doing S.Row)) (first : Layout)
+        (after : List (Doing S.Row)) → IsLawfulStart S.Row.join S.words before first →
+        IsLawfulRun S.Row.join S.words (start S.Row.join S.words before first) after →
         (n : ℕ) → AllProper S.words ((run S.Row.join S.words (start S.Row.join S.words before first) after).nodes n).accepted }
 {
     empty_world_is_sound::<S::Row>();
@@ -72,7 +77,8 @@ pub fn every_world_has_proper_rows<S: Schema>()
 /// A lawful run leads to a sound world. So each layout that some node knows, or some view on its way, has the greatest
 /// partition size for its roles.
 pub fn every_world_is_sound<S: Schema>()
-    ensures { (moves : List (Doing S.Row)) → IsLawfulRun S.Row.join S.words empty moves → IsSound (run S.Row.join S.words empty moves) }
+    ensures { (moves : List (Doing S.Row)) → IsLawfulRun S.Row.join S.words empty moves →
+        IsSound (run S.Row.join S.words empty moves) }
 {
     empty_world_is_sound::<S::Row>();
 }
@@ -81,13 +87,21 @@ pub fn every_world_is_sound<S: Schema>()
 /// kept or collected, where no digests clash, and only what was stored, range phases give windows, and each layout in use has the
 /// greatest partition size.
 pub fn every_installed_world_reads_what_was_kept<S: Schema>()
-    ensures kept { (before : List (Doing S.Row)) (first : Layout) (after : List (Doing S.Row)) → IsLawfulStart S.Row.join S.words before first → IsLawfulRun S.Row.join S.words (start S.Row.join S.words before first) after →
+    ensures kept { (before : List (Doing S.Row)) (first : Layout) (after : List (Doing S.Row)) →
+        IsLawfulStart S.Row.join S.words before first →
+        IsLawfulRun S.Row.join S.words (start S.Row.join S.words before first) after →
         NoClash (StartHashes S.words S.Row.join before first after) → KeptReads S.Row.join S.words (run S.Row.join S.words (start S.Row.join S.words before first) after) }
-    ensures stored { (before : List (Doing S.Row)) (first : Layout) (after : List (Doing S.Row)) → IsLawfulStart S.Row.join S.words before first → IsLawfulRun S.Row.join S.words (start S.Row.join S.words before first) after →
+    ensures stored { (before : List (Doing S.Row)) (first : Layout) (after : List (Doing S.Row)) →
+        IsLawfulStart S.Row.join S.words before first →
+        IsLawfulRun S.Row.join S.words (start S.Row.join S.words before first) after →
         (r : Reading S.Row) → Contains (run S.Row.join S.words (start S.Row.join S.words before first) after).reads r → Gave S.words (ComesFrom S.Row.join S.words (stored_in (before ++ after))) r }
-    ensures windows { (before : List (Doing S.Row)) (first : Layout) (after : List (Doing S.Row)) → IsLawfulStart S.Row.join S.words before first → IsLawfulRun S.Row.join S.words (start S.Row.join S.words before first) after →
+    ensures windows { (before : List (Doing S.Row)) (first : Layout) (after : List (Doing S.Row)) →
+        IsLawfulStart S.Row.join S.words before first →
+        IsLawfulRun S.Row.join S.words (start S.Row.join S.words before first) after →
         (r : Reading S.Row) → Contains (run S.Row.join S.words (start S.Row.join S.words before first) after).reads r → GaveWindow S.words r }
-    ensures sound { (before : List (Doing S.Row)) (first : Layout) (after : List (Doing S.Row)) → IsLawfulStart S.Row.join S.words before first → IsLawfulRun S.Row.join S.words (start S.Row.join S.words before first) after →
+    ensures sound { (before : List (Doing S.Row)) (first : Layout) (after : List (Doing S.Row)) →
+        IsLawfulStart S.Row.join S.words before first →
+        IsLawfulRun S.Row.join S.words (start S.Row.join S.words before first) after →
         IsSound (run S.Row.join S.words (start S.Row.join S.words before first) after) }
 {
     empty_world_is_sound::<S::Row>();
@@ -101,7 +115,9 @@ pub fn every_installed_world_reads_what_was_kept<S: Schema>()
 pub fn every_world_collects_stored_objects<S: Schema>()
     ensures from_empty { (moves : List (Doing S.Row)) → IsLawfulRun S.Row.join S.words empty moves →
         (r : S.Row) → Contains (run S.Row.join S.words empty moves).collected r → (S.words.table r ≡ 1) × ComesFrom S.Row.join S.words (stored_in moves) r }
-    ensures from_installed { (before : List (Doing S.Row)) (first : Layout) (after : List (Doing S.Row)) → IsLawfulStart S.Row.join S.words before first → IsLawfulRun S.Row.join S.words (start S.Row.join S.words before first) after →
+    ensures from_installed { (before : List (Doing S.Row)) (first : Layout)
+        (after : List (Doing S.Row)) → IsLawfulStart S.Row.join S.words before first →
+        IsLawfulRun S.Row.join S.words (start S.Row.join S.words before first) after →
         (r : S.Row) → Contains (run S.Row.join S.words (start S.Row.join S.words before first) after).collected r → (S.words.table r ≡ 1) × ComesFrom S.Row.join S.words (stored_in (before ++ after)) r }
 {
     empty_world_is_sound::<S::Row>();
@@ -110,8 +126,10 @@ pub fn every_world_collects_stored_objects<S: Schema>()
 
 /// Where none of the steps is `collect`, nothing is collected, from the empty world and from one with an installed layout.
 pub fn nothing_is_collected_without_collect<S: Schema>()
-    ensures from_empty { (moves : List (Doing S.Row)) → AreOther moves → (run S.Row.join S.words empty moves).collected ≡ [] }
-    ensures from_installed { (before : List (Doing S.Row)) (first : Layout) (after : List (Doing S.Row)) → IsLawfulStart S.Row.join S.words before first →
+    ensures from_empty { (moves : List (Doing S.Row)) → AreOther moves →
+        (run S.Row.join S.words empty moves).collected ≡ [] }
+    ensures from_installed { (before : List (Doing S.Row)) (first : Layout)
+        (after : List (Doing S.Row)) → IsLawfulStart S.Row.join S.words before first →
         AreOther before → AreOther after → (run S.Row.join S.words (start S.Row.join S.words before first) after).collected ≡ [] }
 {
     empty_world_is_sound::<S::Row>();
@@ -120,7 +138,8 @@ pub fn nothing_is_collected_without_collect<S: Schema>()
 
 /// Where no row has nothing but a delete marker, nothing is collected, whichever nodes are told to collect.
 pub fn nothing_is_collected_without_markers<S: Schema>()
-    ensures { ((r : S.Row) → S.words.marker r ≡ None) → (moves : List (Doing S.Row)) → (run S.Row.join S.words empty moves).collected ≡ [] }
+    ensures { ((r : S.Row) → S.words.marker r ≡ None) → (moves : List (Doing S.Row)) →
+        (run S.Row.join S.words empty moves).collected ≡ [] }
 {
     nothing_without_markers::<S::Row, Layout, Applied, Cut>();
 }

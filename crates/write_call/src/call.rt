@@ -42,7 +42,8 @@ fn confirm_at(slots: &mut Vec<Tally>, place: usize, node: u8)
 }
 
 fn all_reached(slots: &[Tally], from: u32) -> bool
-    ensures { (stored : List StoreSlot) → AreTallies slots.now stored → result ≡ is_kept stored from }
+    ensures { (stored : List StoreSlot) → AreTallies slots.now stored →
+        result ≡ is_kept stored from }
 {
     for slot in slots {
         if !slot.reached(from) {
