@@ -3,6 +3,7 @@ use block_bytes::Block;
 use crdt_core::{Bytes, List};
 use crdt_rows::{AnyRow, BlockRef, Meta, ObjectRow, Version};
 use object_bytes::{ObjectBytes, Pieces};
+use shared_value::Shared;
 use wire_messages::Phase;
 
 /// An object's bucket and key.
@@ -116,7 +117,7 @@ pub enum Stage {
     Listing {
         bucket: Block,
         prefix: Bytes,
-        rows: List<ObjectRow>,
+        rows: List<Shared<ObjectRow>>,
     },
 }
 
@@ -160,7 +161,7 @@ pub enum FlowEnd {
     /// A get, head or copy found no object.
     Nothing,
     /// A list: the rows of the keys whose newest complete version is no delete marker, in order of keys.
-    Listed(List<ObjectRow>),
+    Listed(List<Shared<ObjectRow>>),
     /// A get or copy found its version's row deleted; the version's identifier.
     Superseded(u64),
     /// A streamed upload was given up.

@@ -13,6 +13,7 @@ use crdt_core::{Bytes, List, Memory, Value};
 use crdt_rows::{AnyRow, BlockRef, Meta, ObjectRow, Version};
 use flow_model::{Aim, Content, FlowEnd, FlowStep, Stage, Wish};
 use object_bytes::{ObjectBytes, Pieces};
+use shared_value::Shared;
 use std::alloc::Global;
 use wire_messages::Phase;
 
@@ -165,7 +166,7 @@ pub fn lists(
     request: Request,
     bucket: Block,
     prefix: Bytes,
-    mut rows: List<ObjectRow>,
+    mut rows: List<Shared<ObjectRow>>,
     others: List<AnyRow>,
     end: Option<Bytes>,
 ) -> Result<FlowStep, Memory>

@@ -5,8 +5,9 @@ ghost use Rattle.flow_model.specs.Says.{greatest_ts as greatest_in, said_of, sai
 ghost use Rattle.s3_flow.specs.Said.{said, named};
 
 use blake2_hash::Hash32;
-use crdt_core::{Bytes, Crdt, Deletable, List, Max, Memory};
+use crdt_core::{Bytes, Deletable, List, Max, Memory};
 use crdt_rows::{AnyRow, BlockRef, Body, Meta, ObjectRow, Part, Version};
+use shared_value::Shared;
 use std::alloc::Global;
 
 /// What a row says of its object.
@@ -76,20 +77,20 @@ fn is_shown(row: &ObjectRow) -> bool
 }
 
 // Puts a row at the end of the list, where a list shows it.
-fn push_shown(rows: &mut List<ObjectRow>, row: AnyRow) -> Result<(), Memory>
+fn push_shown(rows: &mut List<Shared<ObjectRow>>, row: AnyRow) -> Result<(), Memory>
     ensures ok { OnOk result (rows.new ≡ rows.old ++ shown_rows (row ∷ [])) }
     ensures want { OnlyWant result }
 {
     if let AnyRow::Object(row) = row {
         if is_shown(row.get()) {
-            rows.push(row.get().copy()?)?;
+            rows.push(row)?;
         }
     }
     Ok(())
 }
 
 /// Puts the rows of a window that a list shows at the end of the list.
-pub fn take_shown(rows: &mut List<ObjectRow>, others: List<AnyRow>) -> Result<(), Memory>
+pub fn take_shown(rows: &mut List<Shared<ObjectRow>>, others: List<AnyRow>) -> Result<(), Memory>
     ensures ok { OnOk result (rows.new ≡ rows.old ++ shown_rows others) }
     ensures want { OnlyWant result }
 {

@@ -8,6 +8,7 @@ use crate::entry::{entry_of, is_repeated};
 use crdt_core::{List, Memory};
 use crdt_rows::ObjectRow;
 use s3_model::{Entry, ListAsk, Page};
+use shared_value::Shared;
 use std::alloc::Global;
 
 /// Shows one entry more, unless it is the common prefix that was shown last. False where there is no room for it.
@@ -27,13 +28,13 @@ fn show(entries: &mut List<Entry>, entry: Entry, max: u32) -> Result<bool, Memor
 
 /// What a list shows of these rows, which stand in the order of their keys: the first entries, as many as are
 /// asked, and whether there are more.
-pub fn page(alloc: Global, rows: &[ObjectRow], ask: &ListAsk) -> Result<Page, Memory>
+pub fn page(alloc: Global, rows: &[Shared<ObjectRow>], ask: &ListAsk) -> Result<Page, Memory>
     ensures page { IfOk result (λ shown. shown ≡ page_of ask.now rows.now) }
     ensures want { OnlyWant result }
 {
     let mut entries = List::new(alloc);
     for row in rows {
-        if let Some(entry) = entry_of(ask, row)? {
+        if let Some(entry) = entry_of(ask, row.get())? {
             if !show(&mut entries, entry, ask.max)? {
                 return Ok(Page {
                     entries,

@@ -4,11 +4,12 @@ use crdt_core::{Bytes, List, Memory};
 use crdt_rows::ObjectRow;
 use s3_list::page;
 use s3_model::{After, Entry, ListAsk, Page};
+use shared_value::Shared;
 use std::alloc::{AllocError, Global};
 use std::test::Fail;
 
 /// The rows of a bucket: a deleted key, and four that are there.
-fn rows(alloc: Global) -> Result<List<ObjectRow>, Memory> {
+fn rows(alloc: Global) -> Result<List<Shared<ObjectRow>>, Memory> {
     let mut rows = List::new(alloc);
     rows.push(row(alloc, b"a&<b", true)?)?;
     rows.push(row(alloc, b"gone", false)?)?;

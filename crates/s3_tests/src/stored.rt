@@ -2,6 +2,7 @@
 use blake2_hash::Hash32;
 use crdt_core::{Bytes, List, Memory};
 use crdt_rows::{Body, Meta, ObjectRow, State, Version};
+use shared_value::Shared;
 use std::alloc::Global;
 
 /// The MD5 digest of `abc` (RFC 1321).
@@ -30,7 +31,7 @@ pub fn meta(alloc: Global) -> Result<Meta, Memory> {
 }
 
 /// The row of `abc` under a key, or of a key that was deleted.
-pub fn row(alloc: Global, key: &[u8], there: bool) -> Result<ObjectRow, Memory> {
+pub fn row(alloc: Global, key: &[u8], there: bool) -> Result<Shared<ObjectRow>, Memory> {
     let body = if there {
         Body::Inline(meta(alloc)?, Bytes::from_slice(alloc, b"abc")?)
     } else {
@@ -41,5 +42,6 @@ pub fn row(alloc: Global, key: &[u8], there: bool) -> Result<ObjectRow, Memory> 
         return Err(Memory::Full);
     }
     let key = Bytes::from_slice(alloc, key)?;
-    ObjectRow::single(alloc, Hash32([0x22; 32]), key, WRITTEN, state)
+    let row = ObjectRow::single(alloc, Hash32([0x22; 32]), key, WRITTEN, state)?;
+    Shared::new(alloc, row)
 }

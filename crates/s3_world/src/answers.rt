@@ -10,6 +10,7 @@ use crdt_rows::{Body, Meta, ObjectRow, Version};
 use flow_model::FlowEnd;
 use history_model::{Answer, Cause, Kind, Record};
 use object_bytes::Pieces;
+use shared_value::Shared;
 use std::alloc::Global;
 
 // Appends the key of a row with its version, where a list shows it.
@@ -27,13 +28,16 @@ fn push_version(shown: &mut List<(Bytes, Version)>, row: &ObjectRow) -> Result<(
 
 // The keys of rows that a list shows, with their versions.
 #[tactic(auto, using(crate::proofs::Listed::versions_first))]
-fn versions_in(alloc: Global, rows: &List<ObjectRow>) -> Result<List<(Bytes, Version)>, Memory>
+fn versions_in(
+    alloc: Global,
+    rows: &List<Shared<ObjectRow>>,
+) -> Result<List<(Bytes, Version)>, Memory>
     ensures are { IfOk result (λ shown. shown ≡ versions_of (entries rows.now)) }
     ensures want { OnlyWant result }
 {
     let mut shown = List::new(alloc);
     for row in rows.as_slice() {
-        push_version(&mut shown, row)?;
+        push_version(&mut shown, row.get())?;
     }
     Ok(shown)
 }
@@ -57,13 +61,16 @@ fn push_line(shown: &mut List<(Bytes, u64, u64, u64)>, row: &ObjectRow) -> Resul
 
 // The keys of rows that a list shows, each with timestamp, identifier and size.
 #[tactic(auto, using(crate::proofs::Listed::lines_first))]
-fn lines_in(alloc: Global, rows: &List<ObjectRow>) -> Result<List<(Bytes, u64, u64, u64)>, Memory>
+fn lines_in(
+    alloc: Global,
+    rows: &List<Shared<ObjectRow>>,
+) -> Result<List<(Bytes, u64, u64, u64)>, Memory>
     ensures are { IfOk result (λ shown. shown ≡ lines_of_entries (entries rows.now)) }
     ensures want { OnlyWant result }
 {
     let mut shown = List::new(alloc);
     for row in rows.as_slice() {
-        push_line(&mut shown, row)?;
+        push_line(&mut shown, row.get())?;
     }
     Ok(shown)
 }
