@@ -1,11 +1,9 @@
 //! Gets of an object that is kept in three blocks, which are written as they come: the answers are those that were worked
 //! out by hand from docs/S3.md, whatever the range, and the cluster ends up the same wherever the link fails.
-use crate::faulty::{Call, Fault, FaultyLink};
-use crate::recorder::recorded;
-use crate::served::{Ended, ONE_CONNECTION, served_with};
 use lab_outside::Status;
 use std::alloc::Global;
 use std::test::Fail;
+use test_links::{Call, Ended, Fault, FaultyLink, ONE_CONNECTION, recorded, served_with};
 
 /// Three nodes in three zones, and blocks of 4,096 bytes.
 const SMALL_BLOCKS: &[u8] = b"\
