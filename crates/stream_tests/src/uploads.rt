@@ -108,7 +108,7 @@ const FIRST_WRITE: Fault = Fault {
 const GET: &[u8] = b"GET /pics/a HTTP/1.1\r\n\r\n";
 
 /// Texts, one after the other.
-fn joined(alloc: Global, texts: &[&[u8]]) -> Result<Vec<u8>, Fail> {
+pub fn joined(alloc: Global, texts: &[&[u8]]) -> Result<Vec<u8>, Fail> {
     let mut whole = Vec::new(alloc);
     for text in texts {
         whole.extend_from_slice(text)?;
@@ -123,7 +123,7 @@ fn followed(mut first: Vec<u8>, second: &[u8]) -> Result<Vec<u8>, Fail> {
 }
 
 /// So many bytes: byte i is the letter that is i modulo 23 after `a`.
-fn body(alloc: Global, size: usize) -> Result<Vec<u8>, Fail> {
+pub fn body(alloc: Global, size: usize) -> Result<Vec<u8>, Fail> {
     let mut bytes = Vec::new(alloc);
     for _ in 0..400 {
         bytes.extend_from_slice(b"abcdefghijklmnopqrstuvw")?;
@@ -133,7 +133,7 @@ fn body(alloc: Global, size: usize) -> Result<Vec<u8>, Fail> {
 }
 
 /// The configuration with this size of blocks in bytes.
-fn cluster(alloc: Global, block_size: &[u8]) -> Result<Vec<u8>, Fail> {
+pub fn cluster(alloc: Global, block_size: &[u8]) -> Result<Vec<u8>, Fail> {
     joined(alloc, &[b"block_size = ", block_size, NODES])
 }
 
