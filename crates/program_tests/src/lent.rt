@@ -4,7 +4,6 @@ ghost use Rattle.s3_world.specs.Stands.{HasStore, IsMeantEvent};
 ghost use Rattle.serve_model.specs.Serving.{HasState};
 ghost use Rattle.serve_cluster.specs.Standing.{StandsFor};
 
-use crate::recorder::recorded;
 use crdt_core::{Bytes, List, Memory};
 use flow_model::{FlowEnd, Order};
 use http_wire::Kept;
@@ -17,6 +16,7 @@ use serve_loop::Storage;
 use serve_model::{Buckets, Served};
 use std::alloc::Global;
 use std::test::Fail;
+use test_links::recorded;
 
 const REQUEST: &[u8] = b"GET /pics/a.txt HTTP/1.1\r\nHost: localhost:3900\r\n\r\n";
 

@@ -1,9 +1,8 @@
 //! How many bytes may be put or copied in all.
-use crate::recorder::recorded;
-use crate::served::served_over;
 use lab_outside::Status;
 use std::alloc::Global;
 use std::test::Fail;
+use test_links::{recorded, served_over};
 
 /// How many bytes the object has, the most that one may have.
 const SIZE: usize = 16_777_216;

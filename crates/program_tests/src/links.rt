@@ -1,13 +1,15 @@
-//! A server whose configuration can't be read or whose lines can't be written, and one on loopback.
-use crate::recorder::recorded;
-use crate::served::{
-    Ended, ONE_ANSWERS, ONE_CONNECTION, ONE_OBJECT, THREE_NODES, served_from, served_over,
-};
+//! A server whose configuration can't be read or whose lines can't be written, one of whose links each call fails in turn, and
+//! one on loopback.
+use crate::served::{ONE_ANSWERS, ONE_OBJECT};
 use lab_outside::{Link, MemSink, MemSource, Status, TcpLink};
 use std::alloc::Global;
 use std::io::{Read, Write};
 use std::net::{Ipv4Addr, TcpListener, TcpStream};
 use std::test::Fail;
+use test_links::{
+    Conversation, Ended, ONE_CONNECTION, ONE_LAYOUT, THREE_NODES, goes_on, recorded, served_from,
+    served_over,
+};
 
 /// The answer to a get of a key that isn't there, on a connection that closes then.
 const NO_KEY: &[u8] = b"\
@@ -102,6 +104,20 @@ fn each_write_of_the_lines_fails(rt: HostRuntime) -> Result<(), Fail> {
         assert!(&rt; end.output.len() < whole.output.len());
     }
     Err("a hundred writes".into())
+}
+
+/// The interim line and seven answers are a write each.
+#[test]
+fn one_object_with_each_call_failing(rt: HostRuntime) -> Result<(), Fail> {
+    let it = Conversation {
+        configuration: THREE_NODES.to_vec(rt.alloc())?,
+        asks: ONE_OBJECT.to_vec(rt.alloc())?,
+        answers: ONE_ANSWERS.to_vec(rt.alloc())?,
+        size: 100,
+        lines: ONE_LAYOUT,
+    };
+    assert!(rt; goes_on(rt.alloc(), &it, 8)?);
+    Ok(())
 }
 
 /// A port that somebody else listens on can't be opened: nothing is served, and nothing written.

@@ -1,34 +1,8 @@
 //! What no clause says: that an answer comes with ample memory, what is told at its end, and that whole answers are those
 //! that were worked out from docs/S3.md by hand.
-ghost use Rattle.std.specs.Prelude.{◌≡◌, None};
-
-use crate::recorder::recorded;
-use lab_outside::{Link, MemClock, MemSink, MemSource, Status};
-use serve_run::{Server, run_server};
-use std::alloc::Global;
+use lab_outside::Status;
 use std::test::Fail;
-
-/// A server of one connection.
-pub const ONE_CONNECTION: Server = Server {
-    port: 3900,
-    count: 1,
-};
-
-/// Three nodes in three zones, each with the same room.
-pub const THREE_NODES: &[u8] = b"\
-    buckets = ['pics']\n\
-    [[node]]\n\
-    id = 1\n\
-    zone = 'a'\n\
-    capacity = 1000\n\
-    [[node]]\n\
-    id = 2\n\
-    zone = 'b'\n\
-    capacity = 1000\n\
-    [[node]]\n\
-    id = 3\n\
-    zone = 'c'\n\
-    capacity = 1000\n";
+use test_links::{SHORT_ANSWER, served};
 
 /// An object is written, read in every way that is served, deleted, and read once more.
 pub const ONE_OBJECT: &[u8] = b"\
@@ -293,15 +267,6 @@ const COPIES_ANSWERS: &[u8] = b"\
 /// The connection ends before the announced body does.
 const SHORT_BODY: &[u8] = b"PUT /pics/a.txt HTTP/1.1\r\nContent-Length: 4\r\n\r\nabc";
 
-pub const SHORT_ANSWER: &[u8] = b"\
-    HTTP/1.1 400 Bad Request\r\n\
-    Date: Tue, 14 Nov 2023 22:13:20 GMT\r\n\
-    Content-Length: 146\r\n\
-    Content-Type: application/xml\r\n\
-    Connection: close\r\n\r\n\
-    <?xml version=\"1.0\" encoding=\"UTF-8\"?>\n\
-    <Error><Code>IncompleteBody</Code><Message>IncompleteBody</Message><Resource>/pics/a.txt</Resource></Error>";
-
 /// A body of no bytes isn't waited for, so its client isn't told to go on.
 const EMPTY_BODY: &[u8] = b"\
     PUT /pics/a.txt HTTP/1.1\r\n\
@@ -335,71 +300,6 @@ const LONG_ANSWER: &[u8] = b"\
     Connection: close\r\n\r\n\
     <?xml version=\"1.0\" encoding=\"UTF-8\"?>\n\
     <Error><Code>InvalidRequest</Code><Message>InvalidRequest</Message><Resource></Resource></Error>";
-
-/// How a server ended, and what was written to the output.
-#[derive(Drop)]
-pub struct Ended {
-    pub status: Status,
-    pub output: Vec<u8>,
-}
-
-/// What a server of one connection that has these bytes did.
-#[derive(Drop)]
-pub struct Session {
-    pub status: Status,
-    pub output: Vec<u8>,
-    pub written: Vec<u8>,
-}
-
-/// A server of one connection of this port and link, over three nodes.
-pub fn served_over<L: Link>(alloc: Global, port: u16, link: &mut L) -> Result<Ended, Fail>
-    requires { L.present link.old ≡ None }
-{
-    served_with(alloc, THREE_NODES, Server { port, count: 1 }, link)
-}
-
-/// A server with this configuration.
-pub fn served_with<L: Link>(
-    alloc: Global,
-    configuration: &[u8],
-    server: Server,
-    link: &mut L,
-) -> Result<Ended, Fail>
-    requires { L.present link.old ≡ None }
-{
-    let source = MemSource::new(configuration.to_vec(alloc)?, Vec::new(alloc));
-    let sink = MemSink::new(alloc, Vec::new(alloc));
-    served_from(alloc, server, source, sink, link)
-}
-
-/// A server whose configuration comes from this source, and whose lines go to this sink.
-pub fn served_from<L: Link>(
-    alloc: Global,
-    server: Server,
-    mut source: MemSource,
-    mut sink: MemSink,
-    link: &mut L,
-) -> Result<Ended, Fail>
-    requires { L.present link.old ≡ None }
-{
-    let mut clock = MemClock::new([1_700_000_000_000].to_vec(alloc)?);
-    let status = run_server(alloc, server, &mut source, &mut sink, link, &mut clock);
-    Ok(Ended {
-        status,
-        output: sink.bytes().to_vec(alloc)?,
-    })
-}
-
-/// A server of one connection that has these bytes.
-pub fn served(alloc: Global, bytes: &[u8]) -> Result<Session, Fail> {
-    let mut link = recorded(alloc, bytes, 65_536)?;
-    let end = served_over(alloc, 3900, &mut link)?;
-    Ok(Session {
-        status: end.status,
-        output: end.output,
-        written: link.written().to_vec(alloc)?,
-    })
-}
 
 /// Seven requests: a put and a delete of 12 messages each, and five reads of 6.
 #[test]
@@ -448,7 +348,7 @@ fn head_without_end(rt: HostRuntime) -> Result<(), Fail> {
 }
 
 /// Whether these are the first answers of the object's, each whole, and a further one is to follow.
-pub fn are_first_answers(written: &[u8]) -> bool {
+fn are_first_answers(written: &[u8]) -> bool {
     ONE_ANSWERS
         .strip_prefix(written)
         .is_some_and(|rest| rest.starts_with(b"HTTP/1.1 "))

@@ -1,11 +1,12 @@
 //! Puts of 3,072 bytes and more, which come block by block: the answers, the rows and blocks that nodes have at the end, and
 //! the number of messages are those that were worked out by hand, also of a put that is given up.
-use crate::faulty::{Call, Fault, FaultyLink};
-use crate::recorder::{Recorder, recorded};
-use crate::served::{Ended, ONE_CONNECTION, served_with};
 use lab_outside::{PieceLink, Status};
 use std::alloc::Global;
 use std::test::Fail;
+use test_links::{
+    Call, Conversation, Ended, Fault, FaultyLink, ONE_CONNECTION, ONE_LAYOUT, Recorder, goes_on,
+    recorded, served_with,
+};
 
 /// Three nodes in three zones, behind the size of blocks in bytes.
 const NODES: &[u8] = b"\n\
@@ -61,20 +62,20 @@ const NO_BUCKET: &[u8] = b"\
     <Error><Code>NoSuchBucket</Code><Message>NoSuchBucket</Message><Resource>/no/a</Resource></Error>";
 
 /// The answer to a put, up to its ETag.
-pub const STORED: &[u8] = b"\
+const STORED: &[u8] = b"\
     HTTP/1.1 200 OK\r\n\
     Date: Tue, 14 Nov 2023 22:13:20 GMT\r\n\
     Content-Length: 0\r\n\
     ETag: \"";
 
 /// The answer to a get, up to its length.
-pub const FOUND: &[u8] = b"\
+const FOUND: &[u8] = b"\
     HTTP/1.1 200 OK\r\n\
     Date: Tue, 14 Nov 2023 22:13:20 GMT\r\n\
     Content-Length: ";
 
 /// What follows its ETag.
-pub const SAID: &[u8] = b"\"\r\n\
+const SAID: &[u8] = b"\"\r\n\
     Last-Modified: Tue, 14 Nov 2023 22:13:20 GMT\r\n\
     Content-Type: application/octet-stream\r\n\
     Accept-Ranges: bytes\r\n\r\n";
@@ -104,7 +105,7 @@ const FIRST_WRITE: Fault = Fault {
 };
 
 /// A get of the object.
-pub const GET: &[u8] = b"GET /pics/a HTTP/1.1\r\n\r\n";
+const GET: &[u8] = b"GET /pics/a HTTP/1.1\r\n\r\n";
 
 /// Texts, one after the other.
 pub fn joined(alloc: Global, texts: &[&[u8]]) -> Result<Vec<u8>, Fail> {
@@ -149,7 +150,7 @@ fn answered(alloc: Global, block_size: &[u8], bytes: &[u8]) -> Result<(Ended, Ve
 }
 
 /// A put under `/pics/a` that announces this length, with these lines in its head, and so much of its body.
-pub fn put(alloc: Global, length: &[u8], lines: &[u8], came: usize) -> Result<Vec<u8>, Fail> {
+fn put(alloc: Global, length: &[u8], lines: &[u8], came: usize) -> Result<Vec<u8>, Fail> {
     let head: &[u8] = b"PUT /pics/a HTTP/1.1\r\nContent-Length: ";
     joined(
         alloc,
@@ -411,5 +412,47 @@ fn answer_to_a_put_fails(rt: HostRuntime) -> Result<(), Fail> {
     let end = served_with(rt.alloc(), &configuration, ONE_CONNECTION, &mut link)?;
     assert_eq!(rt; (link.calls(), link.written()), (1, b"".as_slice()));
     assert!(rt; ends_so(&end, b"rows 4 blocks 2 top ", b"\nend 1 1 42\n"));
+    Ok(())
+}
+
+/// What a put and a get of these bytes are answered.
+fn answers_of_two_blocks(alloc: Global, body: &[u8]) -> Result<Vec<u8>, Fail> {
+    let digest: &[u8] = b"268e87de2d84f8343b14aa8f32a3bc71";
+    joined(
+        alloc,
+        &[
+            b"HTTP/1.1 100 Continue\r\n\r\n",
+            STORED,
+            digest,
+            b"\"\r\n\r\n",
+            FOUND,
+            b"8192\r\nETag: \"",
+            digest,
+            SAID,
+            body,
+        ],
+    )
+}
+
+/// A put and a get of two blocks.
+fn of_two_blocks(alloc: Global) -> Result<Conversation, Fail> {
+    let put = put(alloc, b"8192", b"Expect: 100-continue\r\n", 8192)?;
+    let body = body(alloc, 8192)?;
+    let answers = answers_of_two_blocks(alloc, &body)?;
+    let asks = joined(alloc, &[&put, GET])?;
+    Ok(Conversation {
+        configuration: cluster(alloc, b"4096")?,
+        asks,
+        answers,
+        size: 1000,
+        lines: ONE_LAYOUT,
+    })
+}
+
+/// The interim line, the answer to the put, the head of the get and its two blocks are a write each.
+#[test]
+fn two_blocks_with_each_call_failing(rt: HostRuntime) -> Result<(), Fail> {
+    let it = of_two_blocks(rt.alloc())?;
+    assert!(rt; goes_on(rt.alloc(), &it, 5)?);
     Ok(())
 }

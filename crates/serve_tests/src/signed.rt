@@ -1,6 +1,4 @@
 //! A server with keys: which requests it carries out, and which refusal of two it answers.
-use crate::recorder::recorded;
-use crate::served::{ONE_CONNECTION, THREE_NODES, served_with};
 use crate::signed_copies::{BODIES, BUCKETS, COPIES};
 use crate::signed_gets::{METHODS, SIGNED_GET};
 use crate::signed_more_pairs::{
@@ -13,6 +11,7 @@ use crate::signed_refusals::Pair;
 use lab_outside::Status;
 use std::alloc::Global;
 use std::test::Fail;
+use test_links::{ONE_CONNECTION, THREE_NODES, recorded, served_with};
 
 /// What comes over one connection, and what is written to it.
 pub type Row = (&'static [u8], &'static [u8]);

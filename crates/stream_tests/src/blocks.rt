@@ -1,28 +1,10 @@
 //! Gets of an object that is kept in three blocks, which are written as they come: the answers are those that were worked
 //! out by hand from docs/S3.md, whatever the range, and the cluster ends up the same wherever the link fails.
-use crate::faulty::{Call, Fault, FaultyLink};
-use crate::recorder::recorded;
-use crate::served::{Ended, ONE_CONNECTION, served_with};
+use crate::uploads::{body, cluster, joined};
 use lab_outside::Status;
 use std::alloc::Global;
 use std::test::Fail;
-
-/// Three nodes in three zones, and blocks of 4,096 bytes.
-const SMALL_BLOCKS: &[u8] = b"\
-    block_size = 4096\n\
-    buckets = ['pics']\n\
-    [[node]]\n\
-    id = 1\n\
-    zone = 'a'\n\
-    capacity = 1000\n\
-    [[node]]\n\
-    id = 2\n\
-    zone = 'b'\n\
-    capacity = 1000\n\
-    [[node]]\n\
-    id = 3\n\
-    zone = 'c'\n\
-    capacity = 1000\n";
+use test_links::{Call, Ended, Fault, FaultyLink, ONE_CONNECTION, recorded, served_with};
 
 /// How many bytes the object has: two blocks of 4,096 and a thousand.
 const SIZE: usize = 9192;
@@ -84,25 +66,6 @@ const RANGES: &[Range] = &[
     (b"-20000", b"9192", b"0-9191", 0, 9192),
 ];
 
-/// Texts, one after the other.
-fn joined(alloc: Global, texts: &[&[u8]]) -> Result<Vec<u8>, Fail> {
-    let mut whole = Vec::new(alloc);
-    for text in texts {
-        whole.extend_from_slice(text)?;
-    }
-    Ok(whole)
-}
-
-/// The object: byte i is the letter that is i modulo 23 after `a`.
-fn object(alloc: Global) -> Result<Vec<u8>, Fail> {
-    let mut bytes = Vec::new(alloc);
-    for _ in 0..400 {
-        bytes.extend_from_slice(b"abcdefghijklmnopqrstuvw")?;
-    }
-    bytes.truncate(SIZE);
-    Ok(bytes)
-}
-
 /// The object is put, and this is asked then.
 fn asked(alloc: Global, object: &[u8], ask: &[u8]) -> Result<Vec<u8>, Fail> {
     let head: &[u8] = b"PUT /pics/a HTTP/1.1\r\nContent-Length: 9192\r\n\r\n";
@@ -112,9 +75,9 @@ fn asked(alloc: Global, object: &[u8], ask: &[u8]) -> Result<Vec<u8>, Fail> {
 /// How a server ended over the connection on which this is asked behind the put, and what was written to it behind the
 /// answer to the put.
 fn answer_to(alloc: Global, ask: &[u8]) -> Result<(Status, Vec<u8>), Fail> {
-    let bytes = asked(alloc, &object(alloc)?, ask)?;
+    let bytes = asked(alloc, &body(alloc, SIZE)?, ask)?;
     let mut link = recorded(alloc, &bytes, 65_536)?;
-    let end = served_with(alloc, SMALL_BLOCKS, ONE_CONNECTION, &mut link)?;
+    let end = served_with(alloc, &cluster(alloc, b"4096")?, ONE_CONNECTION, &mut link)?;
     let answer = match link.written().strip_prefix(PUT_ANSWER) {
         Some(answer) => answer,
         None => return Err("the put".into()),
@@ -124,13 +87,13 @@ fn answer_to(alloc: Global, ask: &[u8]) -> Result<(Status, Vec<u8>), Fail> {
 
 /// A server over a connection of whose writes one fails, which gets the object: how it ended, and how many writes were tried.
 fn write_fails(alloc: Global, number: u64) -> Result<(Ended, u64), Fail> {
-    let bytes = asked(alloc, &object(alloc)?, b"GET /pics/a HTTP/1.1\r\n\r\n")?;
+    let bytes = asked(alloc, &body(alloc, SIZE)?, b"GET /pics/a HTTP/1.1\r\n\r\n")?;
     let fault = Fault {
         call: Call::Write,
         number,
     };
     let mut link = FaultyLink::new(alloc, &bytes, 65_536, fault)?;
-    let end = served_with(alloc, SMALL_BLOCKS, ONE_CONNECTION, &mut link)?;
+    let end = served_with(alloc, &cluster(alloc, b"4096")?, ONE_CONNECTION, &mut link)?;
     Ok((end, link.calls()))
 }
 
@@ -162,7 +125,7 @@ fn part(
 #[test]
 fn ranges_across_blocks(rt: HostRuntime) -> Result<(), Fail> {
     let alloc = rt.alloc();
-    let object = object(alloc)?;
+    let object = body(alloc, SIZE)?;
     for range in RANGES {
         let (asked, ..) = *range;
         let ask = joined(
@@ -180,7 +143,7 @@ fn ranges_across_blocks(rt: HostRuntime) -> Result<(), Fail> {
 #[test]
 fn whole_objects(rt: HostRuntime) -> Result<(), Fail> {
     let alloc = rt.alloc();
-    let object = object(alloc)?;
+    let object = body(alloc, SIZE)?;
     let whole = joined(alloc, &[WHOLE, b"9192", SAID, b"\r\n", &object])?;
     let head = joined(alloc, &[WHOLE, b"9192", SAID, b"\r\n"])?;
     let closed = joined(

@@ -1,8 +1,8 @@
 //! Refusals that apply together, of which the first in the table of docs/S3.md is answered, and some that apply alone.
-use crate::served::served;
 use lab_outside::Status;
 use std::alloc::Global;
 use std::test::Fail;
+use test_links::served;
 
 /// What a refusal's answer begins with, and its body up to the path.
 type Refusal = (&'static [u8], &'static [u8]);

@@ -1,10 +1,9 @@
 //! What no clause says of a server with layout changes to come: that an answer comes with ample memory, and the numbers of
 //! messages, rows and blocks that were worked out by hand from the steps of a change (docs/FORMATS.md).
-use crate::recorder::recorded;
-use crate::served::{ONE_CONNECTION, Session, served_with};
 use lab_outside::Status;
 use std::alloc::Global;
 use std::test::Fail;
+use test_links::{ONE_CONNECTION, Session, THREE_NODES, recorded, served_with};
 
 /// An object is put and read.
 pub const PUT_AND_GET: &[u8] = b"\
@@ -128,7 +127,7 @@ const BACK: &[u8] = b"\
 
 /// Three nodes with these changes to come.
 pub fn configuration(alloc: Global, changes: &[&[u8]]) -> Result<Vec<u8>, Fail> {
-    let mut text = crate::served::THREE_NODES.to_vec(alloc)?;
+    let mut text = THREE_NODES.to_vec(alloc)?;
     for change in changes {
         text.extend_from_slice(change)?;
     }
