@@ -210,7 +210,7 @@ sum_both : (f : Act → ℕ) (first rest : List Act) → sum_in f (first ++ rest
 sum_both f [] rest = omega arith
 sum_both f (a ∷ first) rest = let more = sum_both f first rest in omega (arith, more)
 
-even_parts : (before later : List Act) → AllByRecursion IsEvenAct (before ++ later) → AllByRecursion IsEvenAct before × AllByRecursion IsEvenAct later
+pub even_parts : (before later : List Act) → AllByRecursion IsEvenAct (before ++ later) → AllByRecursion IsEvenAct before × AllByRecursion IsEvenAct later
 even_parts [] later h = (tt, h)
 even_parts (a ∷ before) later h = let rest = even_parts before later h.1 in ((h.0, rest.0), rest.1)
 

@@ -33,17 +33,17 @@ pub record Costs (t q r : ℕ) (acts : List Act) : Type 0 where
   pub even : AllByRecursion IsEvenAct acts
 
 -- an act that adds nothing
-abbrev IsFree : Act → Type 0
+abbrev pub IsFree : Act → Type 0
 IsFree a = (passes_in a ≡ 0) × (opens_in a ≡ 0) × (rounds_in a ≡ 0) × IsEvenAct a
 
-none_cost : Costs 0 0 0 []
+pub none_cost : Costs 0 0 0 []
 none_cost = record { passes = omega arith; opens = omega arith; rounds = omega arith; even = tt }
 
-sum_parts : (f : Act → ℕ) (first rest : List Act) → sum_in f (first ++ rest) ≡ sum_in f first + sum_in f rest
+pub sum_parts : (f : Act → ℕ) (first rest : List Act) → sum_in f (first ++ rest) ≡ sum_in f first + sum_in f rest
 sum_parts f [] rest = omega arith
 sum_parts f (a ∷ first) rest = let more = sum_parts f first rest in omega (arith, more)
 
-costs_both : (t q r u p v : ℕ) (first rest : List Act) → Costs t q r first → Costs u p v rest → Costs (t + u) (q + p) (r + v) (first ++ rest)
+pub costs_both : (t q r u p v : ℕ) (first rest : List Act) → Costs t q r first → Costs u p v rest → Costs (t + u) (q + p) (r + v) (first ++ rest)
 costs_both t q r u p v first rest a b =
     let x = sum_parts passes_in first rest in
     let y = sum_parts opens_in first rest in
@@ -67,7 +67,7 @@ costs_wider t q r u p v acts x y z a =
 free_both : (first rest : List Act) → Costs 0 0 0 first → Costs 0 0 0 rest → Costs 0 0 0 (first ++ rest)
 free_both first rest a b = costs_wider (0 + 0) (0 + 0) (0 + 0) 0 0 0 (first ++ rest) (omega arith) (omega arith) (omega arith) (costs_both 0 0 0 0 0 0 first rest a b)
 
-free_first : (a : Act) (rest : List Act) → IsFree a → Costs 0 0 0 rest → Costs 0 0 0 (a ∷ rest)
+pub free_first : (a : Act) (rest : List Act) → IsFree a → Costs 0 0 0 rest → Costs 0 0 0 (a ∷ rest)
 free_first a rest h b =
     let x = h.0 in
     let y = h.1 in

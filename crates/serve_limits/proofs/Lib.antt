@@ -4,3 +4,5 @@ pub mod Acts
 pub mod Jobs
 pub mod Room
 pub mod Talking
+pub mod Drawing
+pub mod Stamps
