@@ -93,7 +93,8 @@ fn append_part(
     meta: &Meta,
 ) -> Result<(), Memory>
     requires { last < 18446744073709551615 }
-    ensures ok { OnOk result (out.new ≡ out.old ++ answers.part_lines (first, last) version meta.now) }
+    ensures ok { OnOk result (out.new ≡ out.old ++ answers.part_lines
+        (first, last) version meta.now) }
     ensures want { OnlyWant result }
 {
     append_object(out, (last + 1).saturating_sub(first), version, meta)?;
@@ -111,7 +112,8 @@ fn part_head(
     close: bool,
 ) -> Result<Bytes, Memory>
     requires { last < 18446744073709551615 }
-    ensures text { IfOk result (λ t. t ≡ answers.part_text (Some (first, last)) version meta.now [] now close) }
+    ensures text { IfOk result
+        (λ t. t ≡ answers.part_text (Some (first, last)) version meta.now [] now close) }
     ensures want { OnlyWant result }
 {
     let mut out = start(alloc, 206, now)?;
@@ -152,7 +154,8 @@ pub(crate) fn found(
     now: u64,
     close: bool,
 ) -> Result<Bytes, Memory>
-    ensures text { IfOk result (λ t. t ≡ answers.found_text range version meta.now body.now now close) }
+    ensures text { IfOk result
+        (λ t. t ≡ answers.found_text range version meta.now body.now now close) }
     ensures want { OnlyWant result }
 {
     let Some(portion) = Portion::of(range, meta.size) else {

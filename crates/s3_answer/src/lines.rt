@@ -53,7 +53,8 @@ fn append_status(out: &mut Bytes, code: u16) -> Result<(), Memory>
 
 /// What each answer begins with: its status line, and the date of the request in milliseconds.
 pub(crate) fn start(alloc: Global, code: u16, now: u64) -> Result<Bytes, Memory>
-    ensures text { IfOk result (λ t. t ≡ lines.status_line code ++ lines.header_line (codes "Date") (date_of now)) }
+    ensures text { IfOk result
+        (λ t. t ≡ lines.status_line code ++ lines.header_line (codes "Date") (date_of now)) }
     ensures want { OnlyWant result }
 {
     let mut out = Bytes::new(alloc);

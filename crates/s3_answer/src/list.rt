@@ -25,7 +25,8 @@ pub(crate) struct Listing<'a> {
 
 /// An element with a key, percent-encoded where this is asked.
 fn append_key(out: &mut Bytes, url: bool, name: &[u8], key: &[u8]) -> Result<(), Memory>
-    ensures ok { OnOk result (out.new ≡ out.old ++ xml.text_element name.now (xml.written url key.now)) }
+    ensures ok { OnOk result (out.new ≡ out.old ++ xml.text_element name.now
+        (xml.written url key.now)) }
     ensures want { OnlyWant result }
 {
     let text = written(out.allocator(), url, key)?;
@@ -39,7 +40,8 @@ fn append_object_parts(
     version: Version,
     meta: &Meta,
 ) -> Result<(), Memory>
-    ensures ok { OnOk result (out.new ≡ out.old ++ bodies.object_parts url key.now version meta.now) }
+    ensures ok { OnOk result (out.new ≡ out.old ++
+        bodies.object_parts url key.now version meta.now) }
     ensures want { OnlyWant result }
 {
     append_key(out, url, b"Key", key)?;
@@ -56,7 +58,8 @@ fn append_object(
     version: Version,
     meta: &Meta,
 ) -> Result<(), Memory>
-    ensures ok { OnOk result (out.new ≡ out.old ++ bodies.object_element url key.now version meta.now) }
+    ensures ok { OnOk result (out.new ≡ out.old ++
+        bodies.object_element url key.now version meta.now) }
     ensures want { OnlyWant result }
 {
     open_tag(out, b"Contents")?;
@@ -194,7 +197,8 @@ fn truth(flag: bool) -> &'static [u8]
 
 /// What was asked.
 fn append_asked(out: &mut Bytes, listing: &Listing) -> Result<(), Memory>
-    ensures ok { OnOk result (out.new ≡ out.old ++ bodies.asked_elements listing.now.bucket.now listing.now.ask.now listing.now.delimiter.now listing.now.url) }
+    ensures ok { OnOk result (out.new ≡ out.old ++
+        bodies.asked_elements listing.now.bucket.now listing.now.ask.now listing.now.delimiter.now listing.now.url) }
     ensures want { OnlyWant result }
 {
     append_text(out, b"Name", listing.bucket.as_slice())?;
@@ -206,7 +210,8 @@ fn append_asked(out: &mut Bytes, listing: &Listing) -> Result<(), Memory>
 
 /// How far the list comes.
 fn append_counted(out: &mut Bytes, listing: &Listing, page: &Page) -> Result<(), Memory>
-    ensures ok { OnOk result (out.new ≡ out.old ++ bodies.counted_elements listing.now.url listing.now.token.now listing.now.start_after.now page.now) }
+    ensures ok { OnOk result (out.new ≡ out.old ++
+        bodies.counted_elements listing.now.url listing.now.token.now listing.now.start_after.now page.now) }
     ensures want { OnlyWant result }
 {
     append_count(out, b"KeyCount", page.entries.len() as u64)?;
@@ -226,7 +231,9 @@ fn append_entries(out: &mut Bytes, url: bool, entries: &[Entry]) -> Result<(), M
 
 /// The body of ListObjectsV2.
 pub(crate) fn list_body(alloc: Global, listing: &Listing, page: &Page) -> Result<Bytes, Memory>
-    ensures text { IfOk result (λ t. t ≡ bodies.list_body listing.now.bucket.now listing.now.ask.now listing.now.delimiter.now listing.now.url listing.now.token.now listing.now.start_after.now page.now) }
+    ensures text { IfOk result
+        (λ t. t ≡
+        bodies.list_body listing.now.bucket.now listing.now.ask.now listing.now.delimiter.now listing.now.url listing.now.token.now listing.now.start_after.now page.now) }
     ensures want { OnlyWant result }
 {
     let mut out = root_start(alloc, b"ListBucketResult")?;

@@ -34,7 +34,8 @@ impl Portion {
     /// Those of the next bytes that are answered, and which of the bytes after them are.
     pub fn take(self, bytes: &[u8]) -> (&[u8], Portion)
         ensures taken { result.0.now ≡ taken self bytes.now }
-        ensures later { (more : List ℕ) → taken self (bytes.now ++ more) ≡ result.0.now ++ taken result.1 more }
+        ensures later { (more : List ℕ) →
+            taken self (bytes.now ++ more) ≡ result.0.now ++ taken result.1 more }
     {
         let rest = from_place(bytes, self.skip);
         let skip = self.skip.saturating_sub(bytes.len() as u64);

@@ -118,7 +118,8 @@ fn listed_if_asked(
     now: u64,
     close: bool,
 ) -> Result<Bytes, Memory>
-    ensures text { IfOk result (λ t. t ≡ answers.page_text (option_copied ask.entry) page.now now close) }
+    ensures text { IfOk result
+        (λ t. t ≡ answers.page_text (option_copied ask.entry) page.now now close) }
     ensures want { OnlyWant result }
 {
     match ask {
@@ -136,7 +137,9 @@ fn object(
     now: u64,
     close: bool,
 ) -> Result<Bytes, Memory>
-    ensures text { IfOk result (λ t. t ≡ answers.object_text (option_copied ask.entry) version meta.now body.now now close) }
+    ensures text { IfOk result
+        (λ t. t ≡ answers.object_text
+        (option_copied ask.entry) version meta.now body.now now close) }
     ensures want { OnlyWant result }
 {
     match ask {
@@ -157,7 +160,8 @@ pub fn answer(
     now: u64,
     close: bool,
 ) -> Result<Bytes, Memory>
-    ensures text { IfOk result (λ t. t ≡ answers.answer_text (option_copied ask.entry) reply.now now close) }
+    ensures text { IfOk result
+        (λ t. t ≡ answers.answer_text (option_copied ask.entry) reply.now now close) }
     ensures want { OnlyWant result }
 {
     match reply {

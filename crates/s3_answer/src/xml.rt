@@ -28,7 +28,8 @@ fn append_small_hex(out: &mut Bytes, byte: u8) -> Result<(), Memory>
 
 fn append_control(out: &mut Bytes, byte: u8) -> Result<(), Memory>
     requires { byte < 32 }
-    ensures ok { OnOk result (out.new ≡ out.old ++ (codes "&#x" ++ xml.small_hex byte ++ codes ";")) }
+    ensures ok { OnOk result (out.new ≡ out.old ++ (codes "&#x" ++ xml.small_hex byte ++
+        codes ";")) }
     ensures want { OnlyWant result }
 {
     out.extend_from_slice(b"&#x")?;

@@ -23,7 +23,8 @@ pub fn are_long(body: &Pieces) -> bool
 
 /// Where block `i` begins, in bytes from 0; none where there is no such block.
 pub fn offset_of(block: u32, body: &[u8], i: u64) -> Option<u64>
-    ensures { MatchOption result (has_piece block body.now i ≡ false) (λ offset. (has_piece block body.now i ≡ true) × (offset ≡ i * block)) }
+    ensures { MatchOption result (has_piece block body.now i ≡ false)
+        (λ offset. (has_piece block body.now i ≡ true) × (offset ≡ i * block)) }
 {
     let offset = i.checked_mul(u64::from(block))?;
     if offset < body.len() as u64 {

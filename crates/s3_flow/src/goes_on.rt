@@ -23,9 +23,11 @@ pub fn after_row(
     value: Option<AnyRow>,
     now: u64,
 ) -> Result<FlowStep, Memory>
-    ensures is { IfOk result (λ step. step ≡ goes_on request.id request.block stage (end_of.Row value) now) }
+    ensures is { IfOk result (λ step. step ≡ goes_on request.id request.block stage
+        (end_of.Row value) now) }
     ensures causes { WantOr result (IsOverdrawn request.id stage (end_of.Row value) now) }
-    ensures never_past { IfOk result (λ step. IsOverdrawn request.id stage (end_of.Row value) now → ⊥) }
+    ensures never_past { IfOk result (λ step. IsOverdrawn request.id stage (end_of.Row value) now →
+        ⊥) }
 {
     match stage {
         Stage::Drawing { name, wish } => {
@@ -48,7 +50,8 @@ pub fn after_window(
     others: List<AnyRow>,
     end: Option<Bytes>,
 ) -> Result<FlowStep, Memory>
-    ensures is { (now : ℕ) → IfOk result (λ step. step ≡ goes_on request.id request.block stage (end_of.Window others end) now) }
+    ensures is { (now : ℕ) → IfOk result
+        (λ step. step ≡ goes_on request.id request.block stage (end_of.Window others end) now) }
     ensures want { OnlyWant result }
 {
     match stage {
@@ -64,7 +67,8 @@ pub fn after_window(
 /// What was stored is kept.
 pub fn after_kept(alloc: Global, request: Request, stage: Stage) -> Result<FlowStep, Memory>
     requires { 0 < request.block }
-    ensures is { (now : ℕ) → IfOk result (λ step. step ≡ goes_on request.id request.block stage end_of.Kept now) }
+    ensures is { (now : ℕ) → IfOk result
+        (λ step. step ≡ goes_on request.id request.block stage end_of.Kept now) }
     ensures want { OnlyWant result }
 {
     match stage {
@@ -95,7 +99,8 @@ pub fn after_block(
     stage: Stage,
     block: Block,
 ) -> Result<FlowStep, Memory>
-    ensures is { (now : ℕ) → IfOk result (λ step. step ≡ goes_on request.id request.block stage (end_of.Block block) now) }
+    ensures is { (now : ℕ) → IfOk result
+        (λ step. step ≡ goes_on request.id request.block stage (end_of.Block block) now) }
     ensures want { OnlyWant result }
 {
     match stage {

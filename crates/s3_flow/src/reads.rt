@@ -78,7 +78,8 @@ fn reads_inline(
     meta: &Meta,
     body: &Bytes,
 ) -> Result<FlowStep, Memory>
-    ensures is { IfOk result (λ step. step ≡ found request.id request.block aim version meta.now body.now) }
+    ensures is { IfOk result (λ step. step ≡
+        found request.id request.block aim version meta.now body.now) }
     ensures want { OnlyWant result }
 {
     let meta = meta.copy()?;
@@ -96,7 +97,8 @@ pub fn looked(
     aim: Aim,
     value: &Option<AnyRow>,
 ) -> Result<FlowStep, Memory>
-    ensures is { IfOk result (λ step. step ≡ looked request.id request.block aim (said_of value.now)) }
+    ensures is { IfOk result (λ step. step ≡ looked request.id request.block aim
+        (said_of value.now)) }
     ensures want { OnlyWant result }
 {
     match said_of(value) {
@@ -119,7 +121,8 @@ pub fn gathers(
     mut left: List<BlockRef>,
     body: Pieces,
 ) -> Result<FlowStep, Memory>
-    ensures is { IfOk result (λ step. step ≡ gathers request.id request.block aim version meta left body) }
+    ensures is { IfOk result (λ step. step ≡
+        gathers request.id request.block aim version meta left body) }
     ensures want { OnlyWant result }
 {
     let Some(block) = left.get(0) else {
@@ -146,7 +149,8 @@ pub fn opened(
     meta: Meta,
     value: &Option<AnyRow>,
 ) -> Result<FlowStep, Memory>
-    ensures is { IfOk result (λ step. step ≡ opened request.id request.block aim version meta (named_by value.now meta.size)) }
+    ensures is { IfOk result (λ step. step ≡ opened request.id request.block aim version meta
+        (named_by value.now meta.size)) }
     ensures want { OnlyWant result }
 {
     match named_by(alloc, value, meta.size)? {
@@ -170,7 +174,8 @@ pub fn lists(
     others: List<AnyRow>,
     end: Option<Bytes>,
 ) -> Result<FlowStep, Memory>
-    ensures is { IfOk result (λ step. step ≡ lists request.id request.block bucket prefix (rows ++ shown_rows others) end) }
+    ensures is { IfOk result (λ step. step ≡ lists request.id request.block bucket prefix
+        (rows ++ shown_rows others) end) }
     ensures want { OnlyWant result }
 {
     take_shown(&mut rows, others)?;

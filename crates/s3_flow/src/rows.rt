@@ -36,7 +36,8 @@ fn meta_of(body: &ObjectBytes, headers: List<(Bytes, Bytes)>) -> Meta
 // The row that says of one version of an object in which state it is.
 fn object_row(alloc: Global, name: Name, version: Version, state: State) -> Result<AnyRow, Memory>
     requires { IsTrue (is_sized state) }
-    ensures is { IfOk result (λ row. (sized : is_sized state ≡ true) → row ≡ model.object_row name version state sized) }
+    ensures is { IfOk result (λ row. (sized : is_sized state ≡ true) →
+        row ≡ model.object_row name version state sized) }
     ensures want { OnlyWant result }
 {
     let Name { bucket, key } = name;
@@ -77,7 +78,8 @@ fn inline(
     body: Bytes,
 ) -> Result<AnyRow, Memory>
     requires { meta.size ≡ length body }
-    ensures is { IfOk result (λ row. (c : ContentOf) → meta ≡ model.meta_of c → body ≡ c.body → row ≡ model.inline name version c) }
+    ensures is { IfOk result (λ row. (c : ContentOf) → meta ≡ model.meta_of c → body ≡ c.body →
+        row ≡ model.inline name version c) }
     ensures want { OnlyWant result }
 {
     let state = State::Complete(Body::Inline(meta, body));
@@ -93,7 +95,8 @@ fn in_blocks(
     meta: Meta,
     first: Hash32,
 ) -> Result<AnyRow, Memory>
-    ensures is { IfOk result (λ row. (block : ℕ) (c : ContentOf) → meta ≡ model.meta_of c → first ≡ piece_hash block c.body 0 → row ≡ model.in_blocks name version block c) }
+    ensures is { IfOk result (λ row. (block : ℕ) (c : ContentOf) → meta ≡ model.meta_of c →
+        first ≡ piece_hash block c.body 0 → row ≡ model.in_blocks name version block c) }
     ensures want { OnlyWant result }
 {
     let state = State::Complete(Body::Blocks(meta, first));
@@ -109,7 +112,8 @@ pub fn complete(
     block: u32,
     content: Content,
 ) -> Result<(AnyRow, Meta), Memory>
-    ensures row { IfOk result (λ made. made.0 ≡ model.complete name version block (wish.Content content)) }
+    ensures row { IfOk result
+        (λ made. made.0 ≡ model.complete name version block (wish.Content content)) }
     ensures meta { IfOk result (λ made. made.1 ≡ model.meta_of content) }
     ensures want { OnlyWant result }
 {
@@ -134,8 +138,11 @@ pub fn complete_pieces(
     received: Pieces,
     headers: List<(Bytes, Bytes)>,
 ) -> Result<(AnyRow, Meta), Memory>
-    ensures row { IfOk result (λ made. made.0 ≡ model.complete name version block (wish.Content (record { body = received; headers = headers }))) }
-    ensures meta { IfOk result (λ made. made.1 ≡ model.meta_of (record { body = received; headers = headers })) }
+    ensures row { IfOk result
+        (λ made. made.0 ≡ model.complete name version block
+        (wish.Content (record { body = received; headers = headers }))) }
+    ensures meta { IfOk result
+        (λ made. made.1 ≡ model.meta_of (record { body = received; headers = headers })) }
     ensures want { OnlyWant result }
 {
     let meta = Meta {
@@ -155,7 +162,8 @@ pub fn complete_pieces(
 
 // The version's row with this block alone.
 fn version_row(alloc: Global, id: u64, part: Part, block: BlockRef) -> Result<AnyRow, Memory>
-    ensures is { IfOk result (λ row. row ≡ any.Version (record { id = id; blocks = Present (map_single part (record { 0 = block })) })) }
+    ensures is { IfOk result (λ row. row ≡ any.Version
+        (record { id = id; blocks = Present (map_single part (record { 0 = block })) })) }
     ensures want { OnlyWant result }
 {
     let mut blocks = Map::new(alloc);
@@ -210,7 +218,8 @@ pub fn block_rows(
     offset: u64,
 ) -> Result<List<(AnyRow, Option<Block>)>, Memory>
     requires { offset < length body.old }
-    ensures are { IfOk result (λ rows. (i : ℕ) → offset ≡ i * block → rows ≡ model.block_rows id block body.old i) }
+    ensures are { IfOk result (λ rows. (i : ℕ) → offset ≡ i * block →
+        rows ≡ model.block_rows id block body.old i) }
     ensures same { body.new ≡ body.old }
     ensures want { OnlyWant result }
 {

@@ -40,7 +40,8 @@ fn deletes(
     name: Name,
     version: Version,
 ) -> Result<FlowStep, Memory>
-    ensures is { IfOk result (λ step. step ≡ completes request.id request.block name version wish.Marker) }
+    ensures is { IfOk result (λ step. step ≡
+        completes request.id request.block name version wish.Marker) }
     ensures want { OnlyWant result }
 {
     let phase = stores(alloc, marker(alloc, name, version)?)?;
@@ -56,7 +57,8 @@ fn completes(
     version: Version,
     content: Content,
 ) -> Result<FlowStep, Memory>
-    ensures is { IfOk result (λ step. step ≡ completes request.id request.block name version (wish.Content content)) }
+    ensures is { IfOk result (λ step. step ≡ completes request.id request.block name version
+        (wish.Content content)) }
     ensures want { OnlyWant result }
 {
     let (row, meta) = complete(alloc, name, version, request.block, content)?;
@@ -84,7 +86,8 @@ fn announces(
     version: Version,
     content: Content,
 ) -> Result<FlowStep, Memory>
-    ensures is { IfOk result (λ step. step ≡ more request.id request.block (stage.Uploading name version content 0) (stores (row.uploading name version))) }
+    ensures is { IfOk result (λ step. step ≡ more request.id request.block
+        (stage.Uploading name version content 0) (stores (row.uploading name version))) }
     ensures want { OnlyWant result }
 {
     let announced = copy_of(&name)?;
@@ -106,7 +109,8 @@ fn announces_stream(
     version: Version,
     coming: Coming,
 ) -> Result<FlowStep, Memory>
-    ensures is { IfOk result (λ step. step ≡ more request.id request.block (stage.Receiving name version coming []) (stores (row.uploading name version))) }
+    ensures is { IfOk result (λ step. step ≡ more request.id request.block
+        (stage.Receiving name version coming []) (stores (row.uploading name version))) }
     ensures want { OnlyWant result }
 {
     let announced = copy_of(&name)?;
@@ -153,7 +157,8 @@ pub fn uploads(
     stored: u64,
 ) -> Result<FlowStep, Memory>
     requires { 0 < request.block }
-    ensures is { IfOk result (λ step. step ≡ uploads request.id request.block name version content stored) }
+    ensures is { IfOk result (λ step. step ≡
+        uploads request.id request.block name version content stored) }
     ensures want { OnlyWant result }
 {
     let Some(offset) = offset_of(request.block, content.body.as_slice(), stored) else {

@@ -29,7 +29,8 @@ pub(crate) fn serve_connection<S: Storage, L: Link, C: Clock>(
     requires state { HasState (S.stands store.old) }
     requires present { IsSome (L.present link.old) }
     ensures present { IsSome (L.present link.new) }
-    ensures talks { (g : Grammar) (p : Serving S.State) → Stands (S.stands store.old) (C.times clock.old) served.old p →
+    ensures talks { (g : Grammar) (p : Serving S.State) →
+        Stands (S.stands store.old) (C.times clock.old) served.old p →
         OnPresent (λ c d. OnLeft (λ left. Talks (talk S.model buckets.now g request_limit p left) (Reached S.model S.fits S.lacks (S.stands store.new) p.store) (known_from S.model S.fits S.lacks p.store) (C.times clock.new) served.new result c d) c.left) (L.present link.old) (L.present link.new) }
     ensures goes { Goes S.model S.fits S.lacks (S.stands store.old) (S.stands store.new) result }
     ensures stays { Stays L.Link link.old link.new }

@@ -34,7 +34,8 @@ pub(crate) fn count(served: &mut Served, size: u64) -> Result<(), ServeFault>
 
 // An upload whose bucket is there and whose key isn't too long.
 fn is_counted(buckets: &List<Bytes>, ask: &Ask) -> bool
-    ensures { result ≡ (is_put_of ask.now && not (missing_of buckets.now (bucket_of ask.now) || is_long_key (key_of ask.now))) }
+    ensures { result ≡ (is_put_of ask.now && not (missing_of buckets.now (bucket_of ask.now) ||
+        is_long_key (key_of ask.now))) }
 {
     let is_put = match ask {
         Ask::Put { .. } => true,

@@ -42,7 +42,8 @@ pub(crate) enum Progress {
 fn send<L: Link>(link: &mut L, portion: Portion, bytes: &[u8]) -> Progress
     requires { IsSome (L.present link.old) }
     ensures present { IsSome (L.present link.new) }
-    ensures sends { OnPresent (Sends portion bytes.now result) (L.present link.old) (L.present link.new) }
+    ensures sends { OnPresent (Sends portion bytes.now result) (L.present link.old)
+        (L.present link.new) }
     ensures stays { Stays L.Link link.old link.new }
 {
     match send_whole(link, bytes) {
@@ -62,7 +63,9 @@ fn begin_answer<L: Link>(
 ) -> Result<Progress, ServeFault>
     requires { IsSome (L.present link.old) }
     ensures present { IsSome (L.present link.new) }
-    ensures written { IfOk result (λ progress. OnPresent (IsAt request.now range progress (Some (found_now version meta.now))) (L.present link.old) (L.present link.new)) }
+    ensures written { IfOk result
+        (λ progress. OnPresent (IsAt request.now range progress (Some (found_now version meta.now)))
+        (L.present link.old) (L.present link.new)) }
     ensures unwritten { OnErr result (L.present link.new ≡ L.present link.old) }
     ensures cause { IfErr result (λ e. e ≡ Wanting) }
     ensures stays { Stays L.Link link.old link.new }
@@ -80,7 +83,9 @@ fn begin_answer<L: Link>(
 fn write_piece<L: Link>(link: &mut L, progress: Progress, piece: &[u8]) -> Progress
     requires { IsSome (L.present link.old) }
     ensures present { IsSome (L.present link.new) }
-    ensures written { (r : Asked) (range : Option AskedRange) (g : Given) (start : Option Connection) → OnPresent (IsAt r range progress (Some g)) start (L.present link.old) →
+    ensures written { (r : Asked) (range : Option AskedRange) (g : Given)
+        (start : Option Connection) →
+        OnPresent (IsAt r range progress (Some g)) start (L.present link.old) →
         OnPresent (IsAt r range result (Some (with_piece g piece.now))) start (L.present link.new) }
     ensures stays { Stays L.Link link.old link.new }
 {
@@ -102,7 +107,8 @@ fn end_object<L: Link>(
 ) -> Result<bool, ServeFault>
     requires { IsSome (L.present link.old) }
     ensures present { IsSome (L.present link.new) }
-    ensures ends { (range : Option AskedRange) (g : Given) (start : Option Connection) → OnPresent (HasWritten request.now range g portion) start (L.present link.old) →
+    ensures ends { (range : Option AskedRange) (g : Given) (start : Option Connection) →
+        OnPresent (HasWritten request.now range g portion) start (L.present link.old) →
         OnPresent (EndsWith (text_with request.now range (with_piece g rest)) request.now.closes result) start (L.present link.new) }
     ensures cause { IfErr result (λ e. e ≡ Wanting) }
     ensures stays { Stays L.Link link.old link.new }
@@ -126,7 +132,10 @@ fn end_begun<L: Link>(
 ) -> Result<bool, ServeFault>
     requires { IsSome (L.present link.old) }
     ensures present { IsSome (L.present link.new) }
-    ensures ends { (range : Option AskedRange) (so_far begun : Option Given) (start : Option Connection) → IsGetOf range request.now.ask → ToldAll so_far begun end → OnPresent (IsAt request.now range (Progress.Writing portion) so_far) start (L.present link.old) →
+    ensures ends { (range : Option AskedRange) (so_far begun : Option Given)
+        (start : Option Connection) → IsGetOf range request.now.ask → ToldAll so_far begun end →
+        OnPresent (IsAt request.now range (Progress.Writing portion) so_far) start
+        (L.present link.old) →
         (let a = answer_at request.now (with_given so_far end) in OnPresent (EndsWith (given_text request.now a begun) (closes_of request.now a) result) start (L.present link.new)) }
     ensures cause { IfErr result (λ e. e ≡ Wanting) }
     ensures stays { Stays L.Link link.old link.new }
@@ -146,7 +155,9 @@ fn answer_at_end<L: Link>(
 ) -> Result<bool, ServeFault>
     requires { IsSome (L.present link.old) }
     ensures present { IsSome (L.present link.new) }
-    ensures says { SaysOn (text_of request.now (answer_at request.now end)) (closes_of request.now (answer_at request.now end)) result (L.present link.old) (L.present link.new) }
+    ensures says { SaysOn (text_of request.now (answer_at request.now end))
+        (closes_of request.now (answer_at request.now end)) result (L.present link.old)
+        (L.present link.new) }
     ensures cause { IfErr result (λ e. e ≡ Wanting) }
     ensures stays { Stays L.Link link.old link.new }
 {
@@ -166,7 +177,9 @@ fn end_answer<L: Link>(
 ) -> Result<bool, ServeFault>
     requires { IsSome (L.present link.old) }
     ensures present { IsSome (L.present link.new) }
-    ensures ends { (range : Option AskedRange) (so_far begun : Option Given) (start : Option Connection) → IsGetOf range request.now.ask → ToldAll so_far begun end → OnPresent (IsAt request.now range progress so_far) start (L.present link.old) →
+    ensures ends { (range : Option AskedRange) (so_far begun : Option Given)
+        (start : Option Connection) → IsGetOf range request.now.ask → ToldAll so_far begun end →
+        OnPresent (IsAt request.now range progress so_far) start (L.present link.old) →
         (let a = answer_at request.now (with_given so_far end) in OnPresent (EndsWith (given_text request.now a begun) (closes_of request.now a) result) start (L.present link.new)) }
     ensures cause { IfErr result (λ e. e ≡ Wanting) }
     ensures stays { Stays L.Link link.old link.new }
@@ -193,7 +206,8 @@ pub(crate) fn get<S: Storage, L: Link>(
     requires asked { IsGetOf range request.now.ask }
     requires present { IsSome (L.present link.old) }
     ensures present { IsSome (L.present link.new) }
-    ensures serves { (p : Serving S.State) (times : Option (List ℕ)) (served : Served) (kept : List ℕ) → Stands (S.stands store.old) times served p → served.kept ≤ kept_limit →
+    ensures serves { (p : Serving S.State) (times : Option (List ℕ)) (served : Served)
+        (kept : List ℕ) → Stands (S.stands store.old) times served p → served.kept ≤ kept_limit →
         ServesOn (λ left. order_turn S.model request.now (Get bucket key) p (kept ++ left)) (Reached S.model S.fits S.lacks (S.stands store.new) p.store) (known_from S.model S.fits S.lacks p.store) times served result kept (L.present link.old) (L.present link.new) }
     ensures goes { Goes S.model S.fits S.lacks (S.stands store.old) (S.stands store.new) result }
     ensures stays { Stays L.Link link.old link.new }

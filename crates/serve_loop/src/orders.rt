@@ -64,7 +64,9 @@ fn copy_order(
     key: &Bytes,
     headers: &Option<List<(Bytes, Bytes)>>,
 ) -> Result<Option<Order>, Memory>
-    ensures same { IfOk result (λ order. order ≡ option_map (λ s. asked.Copy s.0 s.1 bucket.now key.now headers.now) (source_of from.now)) }
+    ensures same { IfOk result
+        (λ order. order ≡ option_map (λ s. asked.Copy s.0 s.1 bucket.now key.now headers.now)
+        (source_of from.now)) }
     ensures want { OnlyWant result }
 {
     let Some(source) = copy_source(from)? else {

@@ -48,7 +48,8 @@ fn carry<S: Storage, L: Link>(
     requires no_get { IsNoGet request.now.ask }
     requires present { IsSome (L.present link.old) }
     ensures present { IsSome (L.present link.new) }
-    ensures serves { (p : Serving S.State) (times : Option (List ℕ)) (kept : List ℕ) → Stands (S.stands store.old) times served.old p →
+    ensures serves { (p : Serving S.State) (times : Option (List ℕ)) (kept : List ℕ) →
+        Stands (S.stands store.old) times served.old p →
         ServesOn (λ left. order_turn S.model request.now order p (kept ++ left)) (Reached S.model S.fits S.lacks (S.stands store.new) p.store) (known_from S.model S.fits S.lacks p.store) times served.new result kept (L.present link.old) (L.present link.new) }
     ensures goes { Goes S.model S.fits S.lacks (S.stands store.old) (S.stands store.new) result }
     ensures stays { Stays L.Link link.old link.new }
@@ -80,7 +81,8 @@ fn serve_whole<S: Storage, L: Link>(
     requires within { served.old.kept ≤ kept_limit }
     requires present { IsSome (L.present link.old) }
     ensures present { IsSome (L.present link.new) }
-    ensures serves { (p : Serving S.State) (times : Option (List ℕ)) (kept : List ℕ) → Stands (S.stands store.old) times served.old p →
+    ensures serves { (p : Serving S.State) (times : Option (List ℕ)) (kept : List ℕ) →
+        Stands (S.stands store.old) times served.old p →
         ServesOn (λ left. whole_turn S.model buckets.now request.now body p (kept ++ left)) (Reached S.model S.fits S.lacks (S.stands store.new) p.store) (known_from S.model S.fits S.lacks p.store) times served.new result kept (L.present link.old) (L.present link.new) }
     ensures goes { Goes S.model S.fits S.lacks (S.stands store.old) (S.stands store.new) result }
     ensures stays { Stays L.Link link.old link.new }
@@ -107,7 +109,8 @@ fn serve_judged<S: Storage, L: Link>(
     requires within { served.old.kept ≤ kept_limit }
     requires present { IsSome (L.present link.old) }
     ensures present { IsSome (L.present link.new) }
-    ensures serves { (p : Serving S.State) (times : Option (List ℕ)) (kept : List ℕ) → Stands (S.stands store.old) times served.old p →
+    ensures serves { (p : Serving S.State) (times : Option (List ℕ)) (kept : List ℕ) →
+        Stands (S.stands store.old) times served.old p →
         ServesOn (λ left. plan_turn S.model buckets.now request.now (order_of request.now.ask body) p (kept ++ left)) (Reached S.model S.fits S.lacks (S.stands store.new) p.store) (known_from S.model S.fits S.lacks p.store) times served.new result kept (L.present link.old) (L.present link.new) }
     ensures goes { Goes S.model S.fits S.lacks (S.stands store.old) (S.stands store.new) result }
     ensures stays { Stays L.Link link.old link.new }
@@ -134,7 +137,11 @@ fn answer_without<L: Link>(
 ) -> Result<bool, ServeFault>
     requires { IsSome (L.present link.old) }
     ensures present { IsSome (L.present link.new) }
-    ensures says { SaysOn (text_of request.now (Answer.Reply (reply_without buckets.now request.now.who request.now.ask))) (closes_of request.now (Answer.Reply (reply_without buckets.now request.now.who request.now.ask))) result (L.present link.old) (L.present link.new) }
+    ensures says { SaysOn (text_of request.now
+        (Answer.Reply (reply_without buckets.now request.now.who request.now.ask)))
+        (closes_of request.now (Answer.Reply
+        (reply_without buckets.now request.now.who request.now.ask))) result (L.present link.old)
+        (L.present link.new) }
     ensures cause { IfErr result (λ e. e ≡ Wanting) }
     ensures stays { Stays L.Link link.old link.new }
 {
@@ -159,7 +166,8 @@ fn serve_body<S: Storage, L: Link>(
     requires within { served.old.kept ≤ kept_limit }
     requires present { IsSome (L.present link.old) }
     ensures present { IsSome (L.present link.new) }
-    ensures serves { (p : Serving S.State) (times : Option (List ℕ)) → Stands (S.stands store.old) times served.old p →
+    ensures serves { (p : Serving S.State) (times : Option (List ℕ)) →
+        Stands (S.stands store.old) times served.old p →
         ServesOn (λ left. body_turn S.model buckets.now request.now p (kept.old.bytes.items ++ left)) (Reached S.model S.fits S.lacks (S.stands store.new) p.store) (known_from S.model S.fits S.lacks p.store) times served.new result kept.new.bytes.items (L.present link.old) (L.present link.new) }
     ensures goes { Goes S.model S.fits S.lacks (S.stands store.old) (S.stands store.new) result }
     ensures stays { Stays L.Link link.old link.new }
@@ -191,7 +199,8 @@ fn serve_coming<S: Storage, L: Link>(
     requires within { served.old.kept ≤ kept_limit }
     requires present { IsSome (L.present link.old) }
     ensures present { IsSome (L.present link.new) }
-    ensures serves { (p : Serving S.State) (times : Option (List ℕ)) → Stands (S.stands store.old) times served.old p →
+    ensures serves { (p : Serving S.State) (times : Option (List ℕ)) →
+        Stands (S.stands store.old) times served.old p →
         ServesOn (λ left. coming_turn S.model buckets.now request.now (upload_of buckets.now request.now) p (kept.old.bytes.items ++ left)) (Reached S.model S.fits S.lacks (S.stands store.new) p.store) (known_from S.model S.fits S.lacks p.store) times served.new result kept.new.bytes.items (L.present link.old) (L.present link.new) }
     ensures goes { Goes S.model S.fits S.lacks (S.stands store.old) (S.stands store.new) result }
     ensures stays { Stays L.Link link.old link.new }
@@ -229,7 +238,8 @@ fn serve_waiting<S: Storage, L: Link>(
     requires within { served.old.kept ≤ kept_limit }
     requires present { IsSome (L.present link.old) }
     ensures present { IsSome (L.present link.new) }
-    ensures serves { (p : Serving S.State) (times : Option (List ℕ)) → Stands (S.stands store.old) times served.old p →
+    ensures serves { (p : Serving S.State) (times : Option (List ℕ)) →
+        Stands (S.stands store.old) times served.old p →
         ServesOn (λ left. waiting_turn S.model buckets.now request.now p (kept.old.bytes.items ++ left)) (Reached S.model S.fits S.lacks (S.stands store.new) p.store) (known_from S.model S.fits S.lacks p.store) times served.new result kept.new.bytes.items (L.present link.old) (L.present link.new) }
     ensures goes { Goes S.model S.fits S.lacks (S.stands store.old) (S.stands store.new) result }
     ensures stays { Stays L.Link link.old link.new }
@@ -254,7 +264,8 @@ fn serve_understood<S: Storage, L: Link>(
     requires keyed { IsKeyed request.now.ask }
     requires present { IsSome (L.present link.old) }
     ensures present { IsSome (L.present link.new) }
-    ensures serves { (p : Serving S.State) (times : Option (List ℕ)) → Stands (S.stands store.old) times served.old p →
+    ensures serves { (p : Serving S.State) (times : Option (List ℕ)) →
+        Stands (S.stands store.old) times served.old p →
         ServesOn (λ left. request_turn S.model buckets.now request.now p (kept.old.bytes.items ++ left)) (Reached S.model S.fits S.lacks (S.stands store.new) p.store) (known_from S.model S.fits S.lacks p.store) times served.new result kept.new.bytes.items (L.present link.old) (L.present link.new) }
     ensures goes { Goes S.model S.fits S.lacks (S.stands store.old) (S.stands store.new) result }
     ensures stays { Stays L.Link link.old link.new }
@@ -319,7 +330,9 @@ fn refuse_read<L: Link>(
 ) -> Result<bool, ServeFault>
     requires { IsSome (L.present link.old) }
     ensures present { IsSome (L.present link.new) }
-    ensures says { SaysOn (head_refusal fault (path_of_refusal head.now) (is_method head.now (codes "HEAD")) now) true result (L.present link.old) (L.present link.new) }
+    ensures says { SaysOn (head_refusal fault (path_of_refusal head.now)
+        (is_method head.now (codes "HEAD")) now) true result (L.present link.old)
+        (L.present link.new) }
     ensures cause { IfErr result (λ e. e ≡ Wanting) }
     ensures stays { Stays L.Link link.old link.new }
 {
@@ -346,7 +359,8 @@ fn serve_ask<S: Storage, L: Link>(
     requires keyed { IsKeyed asked.ask }
     requires present { IsSome (L.present link.old) }
     ensures present { IsSome (L.present link.new) }
-    ensures serves { (p : Serving S.State) (times : Option (List ℕ)) → Stands (S.stands store.old) times served.old p →
+    ensures serves { (p : Serving S.State) (times : Option (List ℕ)) →
+        Stands (S.stands store.old) times served.old p →
         ServesOn (λ left. request_turn S.model buckets.now (request_of last now head.now asked) p (kept.old.bytes.items ++ left)) (Reached S.model S.fits S.lacks (S.stands store.new) p.store) (known_from S.model S.fits S.lacks p.store) times served.new result kept.new.bytes.items (L.present link.old) (L.present link.new) }
     ensures goes { Goes S.model S.fits S.lacks (S.stands store.old) (S.stands store.new) result }
     ensures stays { Stays L.Link link.old link.new }
@@ -372,7 +386,8 @@ fn serve_head<S: Storage, L: Link>(
     requires state { HasState (S.stands store.old) }
     requires present { IsSome (L.present link.old) }
     ensures present { IsSome (L.present link.new) }
-    ensures serves { (p : Serving S.State) (times : Option (List ℕ)) → Stands (S.stands store.old) times served.old p →
+    ensures serves { (p : Serving S.State) (times : Option (List ℕ)) →
+        Stands (S.stands store.old) times served.old p →
         ServesOn (λ left. head_turn S.model buckets.now last now (Some head.now) p (kept.old.bytes.items ++ left)) (Reached S.model S.fits S.lacks (S.stands store.new) p.store) (known_from S.model S.fits S.lacks p.store) times served.new result kept.new.bytes.items (L.present link.old) (L.present link.new) }
     ensures goes { Goes S.model S.fits S.lacks (S.stands store.old) (S.stands store.new) result }
     ensures stays { Stays L.Link link.old link.new }
@@ -390,7 +405,9 @@ fn serve_head<S: Storage, L: Link>(
 fn ask_time<C: Clock>(clock: &mut C, served: &mut Served) -> u64
     ensures time { result ≡ served.new.time }
     ensures kept { served.new.kept ≡ served.old.kept }
-    ensures asked { (times : List ℕ) → C.times clock.old ≡ Some times → (served.new.time ≡ time_from served.old.time (first_of times)) × (C.times clock.new ≡ Some (later_of times)) }
+    ensures asked { (times : List ℕ) → C.times clock.old ≡ Some times →
+        (served.new.time ≡ time_from served.old.time (first_of times)) ×
+        (C.times clock.new ≡ Some (later_of times)) }
 {
     let given = clock.now().min(TIME_LIMIT);
     served.time = served.time.max(given);
@@ -412,7 +429,8 @@ fn serve_found<S: Storage, L: Link, C: Clock>(
     requires state { HasState (S.stands store.old) }
     requires present { IsSome (L.present link.old) }
     ensures present { IsSome (L.present link.new) }
-    ensures serves { (p : Serving S.State) → Stands (S.stands store.old) (C.times clock.old) served.old p →
+    ensures serves { (p : Serving S.State) →
+        Stands (S.stands store.old) (C.times clock.old) served.old p →
         ServesOn (λ left. head_turn S.model buckets.now last (clocked p).time (Some head.now) (clocked p) (kept.old.bytes.items ++ left)) (Reached S.model S.fits S.lacks (S.stands store.new) p.store) (known_from S.model S.fits S.lacks p.store) (C.times clock.new) served.new result kept.new.bytes.items (L.present link.old) (L.present link.new) }
     ensures goes { Goes S.model S.fits S.lacks (S.stands store.old) (S.stands store.new) result }
     ensures stays { Stays L.Link link.old link.new }
@@ -430,9 +448,12 @@ fn refuse_bad<L: Link, C: Clock>(
 ) -> Result<bool, ServeFault>
     requires { IsSome (L.present link.old) }
     ensures present { IsSome (L.present link.new) }
-    ensures says { SaysOn (bad_head served.new.time) true result (L.present link.old) (L.present link.new) }
+    ensures says { SaysOn (bad_head served.new.time) true result (L.present link.old)
+        (L.present link.new) }
     ensures kept { served.new.kept ≡ served.old.kept }
-    ensures asked { (times : List ℕ) → C.times clock.old ≡ Some times → (served.new.time ≡ time_from served.old.time (first_of times)) × (C.times clock.new ≡ Some (later_of times)) }
+    ensures asked { (times : List ℕ) → C.times clock.old ≡ Some times →
+        (served.new.time ≡ time_from served.old.time (first_of times)) ×
+        (C.times clock.new ≡ Some (later_of times)) }
     ensures cause { IfErr result (λ e. e ≡ Wanting) }
     ensures stays { Stays L.Link link.old link.new }
 {
@@ -470,7 +491,8 @@ pub fn serve_request<S: Storage, L: Link, C: Clock>(
     // connection's count of faults rose it was cut off at one of the stops that are stated, for which they stand, and where
     // memory was wanting it came to one, or into the middle of its get: what is written is a first part of the text up to
     // there, or of what the get may give until then, and each order before it fits.
-    ensures serves { (g : Grammar) (p : Serving S.State) → Stands (S.stands store.old) (C.times clock.old) served.old p →
+    ensures serves { (g : Grammar) (p : Serving S.State) →
+        Stands (S.stands store.old) (C.times clock.old) served.old p →
         ServesOn (λ left. turn S.model buckets.now g last p (kept.old.bytes.items ++ left)) (Reached S.model S.fits S.lacks (S.stands store.new) p.store) (known_from S.model S.fits S.lacks p.store) (C.times clock.new) served.new result kept.new.bytes.items (L.present link.old) (L.present link.new) }
 
     // Whatever link and clock tell: lawful orders lead to a state that the store stands for, and `Number` comes only

@@ -43,7 +43,8 @@ fn reply<L: Link>(
     requires { IsSome (L.present link.old) }
     ensures present { IsSome (L.present link.new) }
     ensures cause { IfErr result (λ e. e ≡ Wanting) }
-    ensures says { SaysOn (answer_text (option_copied ask.entry) reply.now now close) close result (L.present link.old) (L.present link.new) }
+    ensures says { SaysOn (answer_text (option_copied ask.entry) reply.now now close) close result
+        (L.present link.old) (L.present link.new) }
     ensures stays { Stays L.Link link.old link.new }
 {
     match answer(alloc, ask, reply, now, close) {
@@ -62,7 +63,9 @@ fn refuse<L: Link>(
     requires { IsSome (L.present link.old) }
     ensures present { IsSome (L.present link.new) }
     ensures cause { IfErr result (λ e. e ≡ Wanting) }
-    ensures says { SaysOn (text_of request.now (Answer.Refusal code)) (closes_of request.now (Answer.Refusal code)) result (L.present link.old) (L.present link.new) }
+    ensures says { SaysOn (text_of request.now (Answer.Refusal code))
+        (closes_of request.now (Answer.Refusal code)) result (L.present link.old)
+        (L.present link.new) }
     ensures stays { Stays L.Link link.old link.new }
 {
     let fault = fault(code);
@@ -92,7 +95,8 @@ pub(crate) fn answer_request<L: Link>(
     requires { IsSome (L.present link.old) }
     ensures present { IsSome (L.present link.new) }
     ensures cause { IfErr result (λ e. e ≡ Wanting) }
-    ensures says { SaysOn (text_of request.now answer) (closes_of request.now answer) result (L.present link.old) (L.present link.new) }
+    ensures says { SaysOn (text_of request.now answer) (closes_of request.now answer) result
+        (L.present link.old) (L.present link.new) }
     ensures stays { Stays L.Link link.old link.new }
 {
     match answer {
@@ -118,7 +122,9 @@ pub(crate) fn answer_end<L: Link>(
 ) -> Result<bool, ServeFault>
     requires { IsSome (L.present link.old) }
     ensures present { IsSome (L.present link.new) }
-    ensures says { SaysOn (text_of request.now (answer_to request.now.ask end)) (closes_of request.now (answer_to request.now.ask end)) result (L.present link.old) (L.present link.new) }
+    ensures says { SaysOn (text_of request.now (answer_to request.now.ask end))
+        (closes_of request.now (answer_to request.now.ask end)) result (L.present link.old)
+        (L.present link.new) }
     ensures cause { IfErr result (λ e. e ≡ Wanting) }
     ensures stays { Stays L.Link link.old link.new }
 {
@@ -140,7 +146,8 @@ pub(crate) fn refuse_head<L: Link>(
     requires { IsSome (L.present link.old) }
     ensures present { IsSome (L.present link.new) }
     ensures cause { IfErr result (λ e. e ≡ Wanting) }
-    ensures says { SaysOn (head_refusal fault path head now) true result (L.present link.old) (L.present link.new) }
+    ensures says { SaysOn (head_refusal fault path head now) true result (L.present link.old)
+        (L.present link.new) }
     ensures stays { Stays L.Link link.old link.new }
 {
     let refused = Reply::Refused { fault, path, head };

@@ -40,13 +40,16 @@ pub fn serve<S: Storage, L: Link, C: Clock>(
     // first part of that, up to a stop, where its count of faults rose; and those behind it are served from there. Where
     // serving ended early it's so for all connections but the last, which came to one of its stops or into the middle of one
     // of its gets, or was written whole.
-    ensures served { (g : Grammar) (p : Serving S.State) → Stands (S.stands store.old) (C.times clock.old) served.old p → IfSome (L.coming link.old) (λ coming.
+    ensures served { (g : Grammar) (p : Serving S.State) →
+        Stands (S.stands store.old) (C.times clock.old) served.old p →
+        IfSome (L.coming link.old) (λ coming.
         Ends S.model buckets.now g p (Reached S.model S.fits S.lacks (S.stands store.new) p.store) (known_from S.model S.fits S.lacks p.store) (C.times clock.new) served.new result coming (L.coming link.new) (L.past link.old) (L.past link.new)) }
 
     // Whatever link and clock tell: lawful orders lead to a state that the store stands for.
     ensures goes { Leaves S.model S.fits S.lacks (S.stands store.old) (S.stands store.new) result }
     ensures within { IfOk result (λ n. n ≤ count) }
-    ensures short { IfOk result (λ n. n < count → IfSome (L.coming link.old) (λ coming. L.coming link.new ≡ Some [])) }
+    ensures short { IfOk result (λ n. n < count →
+        IfSome (L.coming link.old) (λ coming. L.coming link.new ≡ Some [])) }
     ensures gone { IfOk result (λ n. length (L.past link.new) ≡ length (L.past link.old) + n) }
 
     // The port is open then, unless waiting for it or for a connection failed; then the link's count of faults rose, and

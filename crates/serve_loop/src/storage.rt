@@ -63,53 +63,75 @@ pub trait Storage {
         requires state { HasState (stands self.old) }
         requires keyed { HasKey order }
         requires whole { IsWhole order }
-        ensures carries { IfOk result (λ end. (s : State) → stands self.old s → CarriedOut model fits lacks (stands self.new) s time (carries order) end) }
-        ensures causes { WantOr result ((s : State) → stands self.old s → lacks s time (carries order)) };
+        ensures carries { IfOk result (λ end. (s : State) → stands self.old s →
+            CarriedOut model fits lacks (stands self.new) s time (carries order) end) }
+        ensures causes { WantOr result ((s : State) → stands self.old s →
+            lacks s time (carries order)) };
 
     /// Begins a get at a time in milliseconds since 1970. After an error the store is to be given up.
     fn begin(&mut self, time: u64, bucket: Bytes, key: Bytes) -> Result<(), Memory>
         requires state { HasState (stands self.old) }
-        ensures begins { OnOk result ((s : State) → stands self.old s → gives self.new s time (Get bucket key) None) }
-        ensures causes { WantOr result ((s : State) → stands self.old s → lacks s time (carries (Get bucket key))) };
+        ensures begins { OnOk result ((s : State) → stands self.old s →
+            gives self.new s time (Get bucket key) None) }
+        ensures causes { WantOr result ((s : State) → stands self.old s →
+            lacks s time (carries (Get bucket key))) };
 
     /// What the get that is on its way gives next. After an error the store is to be given up.
     fn next(&mut self) -> Result<Got, Memory>
         requires on_its_way { IsOnItsWay (gives self.old) }
-        ensures goes { IfOk result (λ got. (s : State) (time : ℕ) (order : Asked) (so_far : Option Given) → gives self.old s time order so_far →
+        ensures goes { IfOk result
+            (λ got. (s : State) (time : ℕ) (order : Asked) (so_far : Option Given) →
+            gives self.old s time order so_far →
             Gives (gives self.new s time order) (CarriedOut model fits lacks (stands self.new) s time (carries order)) (model.carries s time (carries order)) so_far got) }
         ensures fewer { IfOk result (λ got. GoesOn got → left self.new < left self.old) }
-        ensures first { (s : State) (time : ℕ) (order : Asked) (so_far : Option Given) → gives self.old s time order so_far → IsFirstOf so_far (given (model.carries s time (carries order))) }
-        ensures so_far { (s : State) (time : ℕ) (order : Asked) (so_far : Option Given) → gives self.old s time order so_far → MayGive model s time order so_far }
-        ensures causes { WantOr result ((s : State) (time : ℕ) (order : Asked) (so_far : Option Given) → gives self.old s time order so_far → lacks s time (carries order)) };
+        ensures first { (s : State) (time : ℕ) (order : Asked) (so_far : Option Given) →
+            gives self.old s time order so_far →
+            IsFirstOf so_far (given (model.carries s time (carries order))) }
+        ensures so_far { (s : State) (time : ℕ) (order : Asked) (so_far : Option Given) →
+            gives self.old s time order so_far → MayGive model s time order so_far }
+        ensures causes { WantOr result ((s : State) (time : ℕ) (order : Asked)
+            (so_far : Option Given) → gives self.old s time order so_far →
+            lacks s time (carries order)) };
 
     /// Begins an upload at a time in milliseconds since 1970, and says how many bytes it needs first. After an error the store
     /// is to be given up.
     fn receive(&mut self, time: u64, upload: Upload) -> Result<Option<u64>, Memory>
         requires state { HasState (stands self.old) }
         requires keyed { HasKey (stream_of upload) }
-        ensures takes { IfOk result (λ need. (s : State) → stands self.old s → Takes (takes self.new s time) upload [] need) }
-        ensures causes { WantOr result ((s : State) → stands self.old s → lacks s time (leaves upload [])) };
+        ensures takes { IfOk result (λ need. (s : State) → stands self.old s →
+            Takes (takes self.new s time) upload [] need) }
+        ensures causes { WantOr result ((s : State) → stands self.old s →
+            lacks s time (leaves upload [])) };
 
     /// Gives the upload that is on its way as many bytes as it needs, and says how many it needs next. After an error the
     /// store is to be given up.
     fn feed(&mut self, bytes: Bytes) -> Result<Option<u64>, Memory>
         requires needed { IsTaken (takes self.old) (Some (length bytes)) }
         requires some { 1 ≤ length bytes }
-        ensures takes { IfOk result (λ need. EachTaken (takes self.old) (Some (length bytes)) (λ s time u came. Takes (takes self.new s time) u (came ++ bytes) need)) }
-        ensures causes { WantOr result (EachTaken (takes self.old) (Some (length bytes)) (λ s time u came. lacks s time (leaves u (came ++ bytes)))) };
+        ensures takes { IfOk result (λ need. EachTaken (takes self.old) (Some (length bytes))
+            (λ s time u came. Takes (takes self.new s time) u (came ++ bytes) need)) }
+        ensures causes { WantOr result (EachTaken (takes self.old) (Some (length bytes))
+            (λ s time u came. lacks s time (leaves u (came ++ bytes)))) };
 
     /// Keeps the upload that is on its way, all of whose bytes were taken, and says how it ended. None where it didn't.
     /// After an error the store is to be given up.
     fn keep(&mut self) -> Result<Option<FlowEnd>, Memory>
         requires whole { IsTaken (takes self.old) (Some 0) }
-        ensures kept { IfOk result (λ end. EachTaken (takes self.old) (Some 0) (λ s time u came. CarriedOut model fits lacks (stands self.new) s time (keeps u came) end)) }
-        ensures causes { WantOr result (EachTaken (takes self.old) (Some 0) (λ s time u came. lacks s time (keeps u came))) };
+        ensures kept { IfOk result (λ end. EachTaken (takes self.old) (Some 0)
+            (λ s time u came. CarriedOut model fits lacks (stands self.new) s time
+            (keeps u came) end)) }
+        ensures causes { WantOr result (EachTaken (takes self.old) (Some 0)
+            (λ s time u came. lacks s time (keeps u came))) };
 
     /// Gives the upload that is on its way up, and says how it ended. None where it didn't, as where it waited for no
     /// client any more. After an error the store is to be given up.
     fn leave(&mut self) -> Result<Option<FlowEnd>, Memory>
         requires on_its_way { IsComing (takes self.old) }
-        ensures given_up { IfOk result (λ end. EachLeft (takes self.old) (λ s time job. CarriedOut model fits lacks (stands self.new) s time job end)) }
-        ensures silent { IfOk result (λ end. EachTaken (takes self.old) None (λ s time u came. end ≡ None)) }
-        ensures causes { WantOr result ((need : Option ℕ) → EachTaken (takes self.old) need (λ s time u came. lacks s time (leaves u came))) };
+        ensures given_up { IfOk result
+            (λ end. EachLeft (takes self.old)
+            (λ s time job. CarriedOut model fits lacks (stands self.new) s time job end)) }
+        ensures silent { IfOk result (λ end. EachTaken (takes self.old) None
+            (λ s time u came. end ≡ None)) }
+        ensures causes { WantOr result ((need : Option ℕ) →
+            EachTaken (takes self.old) need (λ s time u came. lacks s time (leaves u came))) };
 }

@@ -33,7 +33,9 @@ fn sent_md5(ask: &Ask) -> Option<&Bytes>
 
 // The MD5 of the body isn't the one that was sent.
 fn is_other_md5(sent: Option<&Bytes>, hasher: Option<Md5>) -> Result<bool, Memory>
-    ensures same { IfOk result (λ other. (bytes : List ℕ) → IsMd5Of (option_map (λ b. b.now) sent.entry) hasher bytes → other ≡ is_other_md5 (option_map (λ b. b.now) sent.entry) bytes) }
+    ensures same { IfOk result (λ other. (bytes : List ℕ) →
+        IsMd5Of (option_map (λ b. b.now) sent.entry) hasher bytes →
+        other ≡ is_other_md5 (option_map (λ b. b.now) sent.entry) bytes) }
     ensures want { OnlyWant result }
 {
     match (sent, hasher) {
@@ -48,7 +50,8 @@ fn is_other_sha256(
     signed: &Option<Bytes>,
     hasher: Option<Sha256>,
 ) -> Result<bool, Memory>
-    ensures same { IfOk result (λ other. (bytes : List ℕ) → IsSha256Of signed.now hasher bytes → other ≡ other_body signed.now bytes) }
+    ensures same { IfOk result (λ other. (bytes : List ℕ) → IsSha256Of signed.now hasher bytes →
+        other ≡ other_body signed.now bytes) }
     ensures want { OnlyWant result }
 {
     match (signed, hasher) {
@@ -79,7 +82,8 @@ impl Sums {
 
     /// The next bytes came.
     pub(crate) fn add(&mut self, part: &[u8])
-        ensures { (r : Asked) (bytes : List ℕ) → AreSums r self.old bytes → AreSums r self.new (bytes ++ part.now) }
+        ensures { (r : Asked) (bytes : List ℕ) → AreSums r self.old bytes →
+            AreSums r self.new (bytes ++ part.now) }
     {
         if let Some(hasher) = &mut self.md5 {
             hasher.update(part);
@@ -91,7 +95,8 @@ impl Sums {
 
     /// The refusal of a body that has another digest than its request says.
     pub(crate) fn refusal(self, alloc: Global, request: &Request) -> Result<Option<Code>, Memory>
-        ensures same { IfOk result (λ code. (bytes : List ℕ) → AreSums request.now self bytes → code ≡ refusal_of_sums request.now bytes) }
+        ensures same { IfOk result (λ code. (bytes : List ℕ) → AreSums request.now self bytes →
+            code ≡ refusal_of_sums request.now bytes) }
         ensures want { OnlyWant result }
     {
         let Sums { md5, sha256 } = self;

@@ -51,8 +51,13 @@ fn take_parts<S: Storage, L: Link>(
     requires begun { IsBegun (S.takes store.old) length first }
     requires present { IsSome (L.present link.old) }
     ensures present { IsSome (L.present link.new) }
-    ensures taken { IfOk result (HasTaken (S.takes store.old) (S.takes store.new) length first sums.old sums.new kept.old.bytes.items kept.new.bytes.items (L.present link.old) (L.present link.new)) }
-    ensures causes { IfErr result (GaveUp (S.takes store.old) S.lacks length first kept.old.bytes.items kept.new.bytes.items (L.present link.old) (L.present link.new)) }
+    ensures taken { IfOk result
+        (HasTaken (S.takes store.old)
+        (S.takes store.new) length first sums.old sums.new kept.old.bytes.items kept.new.bytes.items
+        (L.present link.old) (L.present link.new)) }
+    ensures causes { IfErr result
+        (GaveUp (S.takes store.old) S.lacks length first kept.old.bytes.items kept.new.bytes.items
+        (L.present link.old) (L.present link.new)) }
     ensures stays { Stays L.Link link.old link.new }
 {
     let mut need = first;
@@ -93,10 +98,13 @@ fn refuse_upload<S: Storage, L: Link>(
     requires on_its_way { IsComing (S.takes store.old) }
     requires present { IsSome (L.present link.old) }
     ensures present { IsSome (L.present link.new) }
-    ensures serves { (u : Announced) (came : List ℕ) (need : Option ℕ) (all : List ℕ → List ℕ) (p : Serving S.State) (times : Option (List ℕ)) (served : Served) (kept : List ℕ) →
+    ensures serves { (u : Announced) (came : List ℕ) (need : Option ℕ) (all : List ℕ →
+        List ℕ) (p : Serving S.State) (times : Option (List ℕ)) (served : Served) (kept : List ℕ) →
         ((left : List ℕ) → IsLeft u came need (leaves u (all left))) → Stands (λ s. S.takes store.old s request.now.time u came need) times served p →
         ServesOn (λ left. passing p (leaving_turn S.model request.now u code (all left) p (kept ++ left))) (Reached S.model S.fits S.lacks (S.stands store.new) p.store) (known_from S.model S.fits S.lacks p.store) times served result kept (L.present link.old) (L.present link.new) }
-    ensures goes { (u : Announced) (came : List ℕ) (need : Option ℕ) → Goes S.model S.fits S.lacks (λ s. S.takes store.old s request.now.time u came need) (S.stands store.new) result }
+    ensures goes { (u : Announced) (came : List ℕ) (need : Option ℕ) →
+        Goes S.model S.fits S.lacks (λ s. S.takes store.old s request.now.time u came need)
+        (S.stands store.new) result }
     ensures stays { Stays L.Link link.old link.new }
 {
     match store.leave() {
@@ -117,10 +125,13 @@ fn keep_upload<S: Storage, L: Link>(
     requires put { IsPut request.now.ask }
     requires present { IsSome (L.present link.old) }
     ensures present { IsSome (L.present link.new) }
-    ensures serves { (u : Announced) (came : List ℕ) (p : Serving S.State) (times : Option (List ℕ)) (served : Served) (kept : List ℕ) →
+    ensures serves { (u : Announced) (came : List ℕ) (p : Serving S.State) (times : Option (List ℕ))
+        (served : Served) (kept : List ℕ) →
         Stands (λ s. S.takes store.old s request.now.time u came (Some 0)) times served p → served.kept ≤ kept_limit →
         ServesOn (λ left. passing p (keeping_turn S.model request.now u came p (kept ++ left))) (Reached S.model S.fits S.lacks (S.stands store.new) p.store) (known_from S.model S.fits S.lacks p.store) times served result kept (L.present link.old) (L.present link.new) }
-    ensures goes { (u : Announced) (came : List ℕ) → Goes S.model S.fits S.lacks (λ s. S.takes store.old s request.now.time u came (Some 0)) (S.stands store.new) result }
+    ensures goes { (u : Announced) (came : List ℕ) →
+        Goes S.model S.fits S.lacks (λ s. S.takes store.old s request.now.time u came (Some 0))
+        (S.stands store.new) result }
     ensures stays { Stays L.Link link.old link.new }
 {
     match store.keep() {
@@ -142,10 +153,13 @@ fn end_whole<S: Storage, L: Link>(
     requires put { IsPut request.now.ask }
     requires present { IsSome (L.present link.old) }
     ensures present { IsSome (L.present link.new) }
-    ensures serves { (u : Announced) (came : List ℕ) (p : Serving S.State) (times : Option (List ℕ)) (served : Served) (kept : List ℕ) →
+    ensures serves { (u : Announced) (came : List ℕ) (p : Serving S.State) (times : Option (List ℕ))
+        (served : Served) (kept : List ℕ) →
         AreSums request.now sums came → Stands (λ s. S.takes store.old s request.now.time u came (Some 0)) times served p → served.kept ≤ kept_limit →
         ServesOn (λ left. passing p (came_turn S.model request.now u (refusal_of_sums request.now came) came p (kept ++ left))) (Reached S.model S.fits S.lacks (S.stands store.new) p.store) (known_from S.model S.fits S.lacks p.store) times served result kept (L.present link.old) (L.present link.new) }
-    ensures goes { (u : Announced) (came : List ℕ) → Goes S.model S.fits S.lacks (λ s. S.takes store.old s request.now.time u came (Some 0)) (S.stands store.new) result }
+    ensures goes { (u : Announced) (came : List ℕ) →
+        Goes S.model S.fits S.lacks (λ s. S.takes store.old s request.now.time u came (Some 0))
+        (S.stands store.new) result }
     ensures stays { Stays L.Link link.old link.new }
 {
     match sums.refusal(alloc, request) {
@@ -159,8 +173,12 @@ fn end_whole<S: Storage, L: Link>(
 fn leave_upload<S: Storage>(store: &mut S) -> Result<bool, ServeFault>
     requires on_its_way { IsComing (S.takes store.old) }
     ensures closes { IfOk result (λ on. on ≡ false) }
-    ensures given_up { OnOk result ((end : Option FlowEnd) × EachLeft (S.takes store.old) (λ s time job. CarriedOut S.model S.fits S.lacks (S.stands store.new) s time job end) × EachTaken (S.takes store.old) None (λ s time u came. end ≡ None)) }
-    ensures causes { IfErr result (IsCause ((need : Option ℕ) → EachTaken (S.takes store.old) need (λ s time u came. S.lacks s time (leaves u came)))) }
+    ensures given_up { OnOk result ((end : Option FlowEnd) ×
+        EachLeft (S.takes store.old) (λ s time job. CarriedOut S.model S.fits S.lacks
+        (S.stands store.new) s time job end) ×
+        EachTaken (S.takes store.old) None (λ s time u came. end ≡ None)) }
+    ensures causes { IfErr result (IsCause ((need : Option ℕ) →
+        EachTaken (S.takes store.old) need (λ s time u came. S.lacks s time (leaves u came)))) }
 {
     match store.leave() {
         Ok(_) => Ok(false),
@@ -181,11 +199,15 @@ fn end_upload<S: Storage, L: Link>(
     requires put { IsPut request.now.ask }
     requires present { IsSome (L.present link.old) }
     ensures present { IsSome (L.present link.new) }
-    ensures serves { (buckets : Named) (u : Announced) (bytes : List ℕ) (need : Option ℕ) (p : Serving S.State) (times : Option (List ℕ)) (served : Served) (before kept : List ℕ) (start : Option Connection) →
+    ensures serves { (buckets : Named) (u : Announced) (bytes : List ℕ) (need : Option ℕ)
+        (p : Serving S.State) (times : Option (List ℕ)) (served : Served) (before kept : List ℕ)
+        (start : Option Connection) →
         IsStreamed buckets request.now u → NeedsSo came need → IsNeedOf u bytes need → AreSums request.now sums bytes → OnPresent (CameSo came bytes need before kept) start (L.present link.old) →
         Stands (λ s. S.takes store.old s request.now.time u bytes need) times served p → served.kept ≤ kept_limit →
         ServesOn (λ left. stream_turn S.model buckets request.now u p (before ++ left)) (Reached S.model S.fits S.lacks (S.stands store.new) p.store) (known_from S.model S.fits S.lacks p.store) times served result kept start (L.present link.new) }
-    ensures goes { (u : Announced) (bytes : List ℕ) (need : Option ℕ) → NeedsSo came need → Goes S.model S.fits S.lacks (λ s. S.takes store.old s request.now.time u bytes need) (S.stands store.new) result }
+    ensures goes { (u : Announced) (bytes : List ℕ) (need : Option ℕ) → NeedsSo came need →
+        Goes S.model S.fits S.lacks (λ s. S.takes store.old s request.now.time u bytes need)
+        (S.stands store.new) result }
     ensures stays { Stays L.Link link.old link.new }
 {
     match came {
@@ -211,7 +233,9 @@ pub(crate) fn receive<S: Storage, L: Link>(
     requires put { IsPut request.now.ask }
     requires present { IsSome (L.present link.old) }
     ensures present { IsSome (L.present link.new) }
-    ensures serves { (buckets : Named) (p : Serving S.State) (times : Option (List ℕ)) (served : Served) → IsStreamed buckets request.now upload → Stands (S.stands store.old) times served p → served.kept ≤ kept_limit →
+    ensures serves { (buckets : Named) (p : Serving S.State) (times : Option (List ℕ))
+        (served : Served) → IsStreamed buckets request.now upload →
+        Stands (S.stands store.old) times served p → served.kept ≤ kept_limit →
         ServesOn (λ left. stream_turn S.model buckets request.now upload p (kept.old.bytes.items ++ left)) (Reached S.model S.fits S.lacks (S.stands store.new) p.store) (known_from S.model S.fits S.lacks p.store) times served result kept.new.bytes.items (L.present link.old) (L.present link.new) }
     ensures goes { Goes S.model S.fits S.lacks (S.stands store.old) (S.stands store.new) result }
     ensures stays { Stays L.Link link.old link.new }
