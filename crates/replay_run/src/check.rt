@@ -10,18 +10,17 @@ use history_model::History;
 use layout_text::append_number;
 use s3_world::S3World;
 use std::alloc::Global;
-use world_history::{fresh, pairs};
+use world_history::check;
 
 /// `fresh N` and a line feed, `stale N` where a read isn't fresh.
 fn checked(alloc: Global, history: &History) -> Result<Bytes, Memory>
     ensures line { IfOk result (λ line. IsCheck history.now.0 line) }
     ensures want { OnlyWant result }
 {
-    let is_fresh = fresh(alloc, history)?;
-    let count = pairs(alloc, history)?;
-    let name: &[u8] = if is_fresh { b"fresh" } else { b"stale" };
+    let told = check(alloc, history)?;
+    let name: &[u8] = if told.is_fresh { b"fresh" } else { b"stale" };
     let mut line = Bytes::from_slice(alloc, name)?;
-    append_number(&mut line, count)?;
+    append_number(&mut line, told.pairs)?;
     line.push(b'\n')?;
     Ok(line)
 }

@@ -1,5 +1,5 @@
 -- The first of the places that the numbers below one have, and of the reads that aren't fresh.
-use Rattle.std.proofs.Common.{◌≡◌, ℕ, zero, suc, ◌+◌, ◌<◌, ◌≤◌, Bool, true, false, List, Option, Some, None, IsNone, ◌↔◌, ◌⊎◌, inl, inr, nat_lt, length, refl, sym, subst, ◌∙◌, arith, below_more}
+use Rattle.std.proofs.Common.{◌≡◌, ℕ, zero, suc, ◌+◌, ◌<◌, ◌≤◌, Bool, true, false, List, Option, Some, None, is_some, not, IsNone, IsTrue, ◌↔◌, ◌⊎◌, inl, inr, nat_lt, length, refl, sym, subst, ◌∙◌, arith, below_more}
 use Rattle.std.proofs.lemmas.Bool.{ltb-true, ltb-false}
 use Rattle.history_model.specs.declared.record.Record.{Record}
 use Rattle.history_model.specs.Fresh.{Fresh}
@@ -103,6 +103,13 @@ none_is_fresh h first = (λ none. fresh_none h first, λ fresh. refl)
 
 pub some_is_stale : (h : List Record) (place q : ℕ) → IsFirstBelow (stale_at h) (length h) (Some (place, q)) → IsNone (Some q) ↔ Fresh h
 some_is_stale h place q first = (λ none. let no : true ≡ false = none in cc, λ fresh. absurd (not_fresh h (place, q) first fresh))
+
+-- whether none is found says whether the history is fresh
+pub none_tells : (h : List Record) (o : Option Place) (none : Bool) → is_some o ≡ not none → IsFirstBelow (stale_at h) (length h) o → IsTrue none ↔ Fresh h
+none_tells h None true e first = (λ yes. fresh_none h first, λ fresh. refl)
+none_tells h None false e first = let no : false ≡ true = e in cc
+none_tells h (Some a) true e first = let no : true ≡ false = e in cc
+none_tells h (Some a) false e first = (λ yes. let no : false ≡ true = yes in cc, λ fresh. absurd (not_fresh h a first fresh))
 
 -- each history is fresh or isn't
 pub fresh_or_not : (h : List Record) → Fresh h ⊎ (Fresh h → ⊥)

@@ -1,5 +1,5 @@
 -- What look-ups find among the deletes, and among the entries of a request.
-use Rattle.std.proofs.Common.{◌≡◌, ℕ, ◌<◌, ◌≤◌, Bool, true, false, ◌&&◌, cond, List, Option, Some, None, option_map, length, get_or, slice_get, refl, ap, sym, subst, ◌∙◌, arith}
+use Rattle.std.proofs.Common.{◌≡◌, ℕ, ◌<◌, ◌≤◌, Bool, true, false, ◌&&◌, cond, List, Some, None, option_map, length, get_or, slice_get, refl, ap, sym, ◌∙◌, arith}
 use Rattle.std.specs.List.{Contains}
 use Rattle.std.specs.List.Sorted.{IsPartitionPoint}
 use Rattle.std.proofs.lemmas.Bool.{and_parts, lt-ltb, ltb-true}
@@ -7,8 +7,7 @@ use Rattle.std.proofs.lemmas.Option.{slice_get_within}
 use Rattle.std.proofs.lemmas.Slice.Eq.{bytes_eq-Decides}
 use Rattle.crdt_rows.specs.declared.version.Version.{Version}
 use Rattle.history_model.specs.declared.record.Record.{Record}
-use Rattle.history_model.specs.declared.record.Record.TheVariants.{Began, Finished, Ended}
-use Rattle.history_model.specs.Record.{request_of, is_delete, same_bytes}
+use Rattle.history_model.specs.Record.{request_of, same_bytes}
 use Rattle.world_history.specs.declared.rows.Row.{Row}
 use Rattle.world_history.specs.Index.{Speaks, IsOrder, is_earlier}
 use Rattle.world_history.specs.Table.{delete_of, delete_at, AreDeletes, is_before, is_of}
@@ -16,34 +15,16 @@ use Rattle.world_history.specs.Checks.{deletes_at, is_deleted, writes_at, is_wri
 use Rattle.world_history.proofs.Below.{any_below_at, any_below_none}
 use Rattle.world_history.proofs.Parts.{Begun}
 use Rattle.world_history.proofs.Order.{range_before, range_entry}
-use Rattle.world_history.proofs.Rowed.{row_in, row_out, in_range, range_in}
+use Rattle.world_history.proofs.Rowed.{row_in, in_range, range_in}
 use Rattle.world_history.proofs.Decided.{DeletesAs, deletes_at-Decides, writes_at-Decides}
 
 -- ---- deletes
-
--- the row of a delete has its place
-delete_back : (b : ℕ) (o : Option Record) (r : Row) → delete_of b o ≡ Some r → r.place ≡ b
-delete_back b None r e = let no : ◌≡◌ {A = Option Row} None (Some r) = e in cc
-delete_back b (Some (Finished q answer)) r e = let no : ◌≡◌ {A = Option Row} None (Some r) = e in cc
-delete_back b (Some (Ended q cause)) r e = let no : ◌≡◌ {A = Option Row} None (Some r) = e in cc
-delete_back b (Some (Began q node kind bucket key)) r e = by_test (is_delete kind) e
-  where
-    by_test : (t : Bool) → cond t (Some (record { bucket = bucket; key = key; place = b })) None ≡ Some r → r.place ≡ b
-    by_test true e = let same : record { bucket = bucket; key = key; place = b } ≡ r = cc in sym (ap (λ (x : Row). x.place) same)
-    by_test false e = let no : ◌≡◌ {A = Option Row} None (Some r) = e in cc
 
 -- no row from k on, below `high`, passes
 abbrev pub NoneDeletes : List Record → List Row → List ℕ → List ℕ → Version → ℕ → ℕ → Type 0
 NoneDeletes h deletes bucket key w k high = (m : ℕ) (d : Row) → k ≤ m → m < high → deletes_at h bucket key w (get_or deletes m d).place ≡ false
 
 module _ (h : List Record) (deletes : List Row) (t : AreDeletes h deletes) where
-  -- the row of a delete stands where a record is
-  pub delete_within : (m : ℕ) (d : Row) → m < length deletes → (get_or deletes m d).place < length h
-  delete_within m d lt =
-      let told = row_out (delete_at h) (length h) deletes t m d lt in
-      let same = delete_back told.0 (slice_get h told.0) (get_or deletes m d) told.2 in
-      subst (λ n. n < length h) (sym same) told.1
-
   module _ (bucket key : List ℕ) (w : Version) (j low high : ℕ) (le : high ≤ length deletes)
       (at_low : IsPartitionPoint (λ r. is_before bucket key 0 r ≡ true) (λ r. is_before bucket key 0 r ≡ false) deletes low)
       (at_high : IsPartitionPoint (λ r. is_before bucket key j r ≡ true) (λ r. is_before bucket key j r ≡ false) deletes high) where

@@ -55,8 +55,8 @@ fn earlier(a: Option<(usize, u64)>, b: Option<(usize, u64)>) -> Option<(usize, u
     }
 }
 
-// The first place at which a read finished that isn't fresh, with its request's number.
-fn first_of(past: &Past<'_>) -> Option<(usize, u64)>
+/// The first place at which a read finished that isn't fresh, with its request's number.
+pub fn first_of(past: &Past<'_>) -> Option<(usize, u64)>
     ensures { IsFirstBelow (stale_at past.now.table.index.records.now) (length past.now.table.index.records.now) result }
 {
     let mut first = None;

@@ -9,11 +9,13 @@
 //! below one acknowledged before the read began, and none only where a delete explains it; and each version
 //! that it shows is that of a put or copy of the key. `first_stale` names the read that doesn't, and of several
 //! the one that finished first. `pairs` counts what there was to check: the pairs of a
-//! finished read and a write acknowledged before it began, of a key that it names. All hold of any list of
-//! records. Each takes memory for one entry of 16 bytes for each record, and for one row, with a copy of its
-//! bucket and key, for each acknowledged write.
+//! finished read and a write acknowledged before it began, of a key that it names. `check` says what `fresh` and
+//! `pairs` say, and sorts the records once for both. All hold of any list of records. Each takes memory for one
+//! entry of 16 bytes for each record, and for one row, with a copy of its bucket and key, for each acknowledged
+//! write.
 #![tactic(auto)]
 
+mod checked;
 mod deletes;
 mod finish;
 mod freshness;
@@ -24,6 +26,7 @@ mod past;
 mod read;
 mod rows;
 
+pub use checked::{Checked, check};
 pub use freshness::{first_stale, fresh};
 pub use history_model::{Answer, Cause, History, Kind, Record};
 pub use pair_count::pairs;

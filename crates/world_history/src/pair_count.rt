@@ -57,6 +57,17 @@ fn pairs_at(table: &Table<'_>, i: usize) -> usize
     }
 }
 
+/// How many pairs there are: 2^64 - 1 where there are more.
+pub fn pairs_of(table: &Table<'_>) -> u64
+    ensures { result ≡ min (pair_count table.now.index.records.now) (2 ^ 64 - 1) }
+{
+    let mut total = 0u64;
+    for i in 0..table.index.records.len() {
+        total = total.saturating_add(pairs_at(table, i) as u64);
+    }
+    total
+}
+
 /// How many pairs there are of a finished read and a write, acknowledged before that read began, of a key that
 /// it names: 2^64 - 1 where there are more.
 pub fn pairs(alloc: Global, h: &History) -> Result<u64, Memory>
@@ -64,9 +75,5 @@ pub fn pairs(alloc: Global, h: &History) -> Result<u64, Memory>
     ensures want { OnlyWant result }
 {
     let table = Table::new(alloc, h.0.as_slice())?;
-    let mut total = 0u64;
-    for i in 0..table.index.records.len() {
-        total = total.saturating_add(pairs_at(&table, i) as u64);
-    }
-    Ok(total)
+    Ok(pairs_of(&table))
 }
