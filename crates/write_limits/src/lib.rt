@@ -11,8 +11,19 @@ ghost use Rattle.flow_model.specs.declared.flow.Stage.{Stage};
 ghost use Rattle.flow_model.specs.Flow.{started};
 ghost use Rattle.flow_model.specs.Next.{goes_on};
 ghost use Rattle.flow_model.specs.Streams.{need_in, fed_in, kept_in, given_up_in};
+ghost use Rattle.std.specs.List.{AllByRecursion};
+ghost use Rattle.store_model.specs.Run.{start};
+ghost use Rattle.store_model.specs.Acts.{Act, after_acts, AreLawfulActs, ActsFit};
 ghost use Rattle.phase_limits.specs.Phases.{Held, IsWithin, GivesFew};
 ghost use Rattle.write_limits.specs.Fitting.{OrderFits, StageFits, EndFits, DrawsInRange, StoresSingle, GoesFit, HeardFits};
+ghost use Rattle.write_limits.specs.Acting.{ActFits, GaveFits, WaitFitting, ActsStoreSingle};
+
+use object_schema::S3Schema;
+use world_reads::{
+    every_installed_world_reads_what_was_kept, every_world_collects_stored_objects,
+    every_world_gives_windows, every_world_has_kept_reads, every_world_is_sound,
+    every_world_reads_stored_rows, nothing_is_collected_without_collect,
+};
 
 /// What a request stores has a spelling, and each of its rows one entry at most: as it begins, once a phase of it has ended, and
 /// once its client was heard, where its order fits, what phases give has a spelling, and the version that is drawn is in range.
@@ -25,3 +36,18 @@ pub fn what_requests_store_has_a_spelling()
     ensures kept { (id block : ℕ) (stage : Stage) → StageFits stage → HeardFits (kept_in id block stage) }
     ensures given_up { (id block : ℕ) (stage : Stage) → StageFits stage → HeardFits (given_up_in id block stage) }
 {}
+
+/// In a run of lawful acts that fit, whose orders and bytes are in range, each request waits so that it fits, and each row that is
+/// stored has a spelling and one entry at most, as long as all that phases gave fits and all versions that were drawn are in range.
+pub fn acts_store_what_has_a_spelling()
+    ensures waits { (h : Held) (acts : List Act) → h.bytes < 2 ^ 64 → AreLawfulActs start acts → ActsFit start acts → AllByRecursion ActFits acts → GaveFits h (after_acts start acts) → WaitFitting h (after_acts start acts).asked }
+    ensures stored { (h : Held) (acts : List Act) → h.bytes < 2 ^ 64 → AreLawfulActs start acts → ActsFit start acts → AllByRecursion ActFits acts → GaveFits h (after_acts start acts) → ActsStoreSingle start acts }
+{
+    every_world_is_sound::<S3Schema>();
+    every_world_has_kept_reads::<S3Schema>();
+    every_world_reads_stored_rows::<S3Schema>();
+    every_world_gives_windows::<S3Schema>();
+    every_installed_world_reads_what_was_kept::<S3Schema>();
+    every_world_collects_stored_objects::<S3Schema>();
+    nothing_is_collected_without_collect::<S3Schema>();
+}
