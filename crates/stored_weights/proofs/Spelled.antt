@@ -1,6 +1,8 @@
 -- A row that is made of stored rows has a spelling, where those have: its parts are in range as theirs are, and its entries are few as theirs are.
-use Rattle.std.specs.Prelude.{◌≡◌, ◌≤◌, ◌<◌, ◌^◌, ◌+◌, ℕ, Bool, true, false, ◌&&◌, if◌then◌else◌, Option, Some, None, option_map, List, [], ◌∷◌, length, map, refl}
+use Rattle.std.specs.Prelude.{◌≡◌, ◌≤◌, ◌<◌, ◌^◌, ◌+◌, ℕ, Bool, true, false, ◌&&◌, cond, if◌then◌else◌, Option, Some, None, option_map, List, [], ◌∷◌, ◌++◌, length, map, filter, refl}
 use Rattle.std.specs.List.{AllByRecursion, list_all, flat_map}
+use Rattle.std.specs.Cmp.{tied_itself}
+use Rattle.std.specs.Ordering.{is_eq}
 use Rattle.std.proofs.Common.{ap, sym, subst, inl, inr, arith, length-append}
 use Rattle.std.proofs.lemmas.List.{length-map}
 use Rattle.blake2_hash.specs.declared.digest.Hash32.{Hash32}
@@ -17,6 +19,7 @@ use Rattle.crdt_rows.specs.declared.state.State.{State}
 use Rattle.crdt_rows.specs.declared.object_row.ObjectRow.{ObjectRow}
 use Rattle.crdt_rows.specs.declared.version_row.Part.{Part}
 use Rattle.crdt_rows.specs.declared.version_row.BlockRef.{BlockRef}
+use Rattle.crdt_rows.specs.declared.version_row.VersionRow.{VersionRow}
 use Rattle.crdt_rows.specs.declared.any_row.AnyRow.{AnyRow}
 use Rattle.crdt_rows.specs.declared.any_row.AnyRow.TheVariants as rows
 use Rattle.crdt_rows.specs.Facts.{HasState, HasBlock}
@@ -32,8 +35,11 @@ use Rattle.limit_rows.proofs.Weights.{Entry, entries_say, mapped_value, Place, p
 use Rattle.row_codec.specs.Built.{BlockMap}
 use Rattle.row_codec.specs.Reads.{are_bytes}
 use Rattle.row_codec.specs.Range.{is_eight, is_hash, in_range, has_bytes, is_below, version_in_range, state_in_range, part_in_range, block_in_range, is_short_state}
-use Rattle.row_codec.specs.Spelling.{spelled}
-use Rattle.stored_weights.specs.Stored.{IsSpelled, entries_in, sum_of}
+use Rattle.row_codec.specs.Spelling.{eight, spelled}
+use Rattle.object_schema.specs.Schema.{words}
+use Rattle.table_model.specs.Rows.{place_cmp, place, is_at}
+use Rattle.table_model.proofs.RowLaws.{place_total}
+use Rattle.stored_weights.specs.Stored.{IsSpelled, entries_in, sum_of, beside}
 use Rattle.stored_weights.proofs.Made.{OfObject, SaysState, SaysBlock, HasId, of_version, of_object, HasRef, of_ref, of_block, IsMade}
 
 -- ---- what a spelling says
@@ -43,7 +49,7 @@ spelled_parts true true bytes e = (refl, refl)
 spelled_parts true false bytes e = cc
 spelled_parts false b bytes e = cc
 
-spelled_is : (a b : Bool) (bytes : List ℕ) → a ≡ true → b ≡ true → (if a && b then Some bytes else None) ≡ Some bytes
+pub spelled_is : (a b : Bool) (bytes : List ℕ) → a ≡ true → b ≡ true → (if a && b then Some bytes else None) ≡ Some bytes
 spelled_is true true bytes f g = refl
 spelled_is true false bytes f g = cc
 spelled_is false b bytes f g = cc
@@ -150,6 +156,46 @@ module _ {K X : Type 0} (k : K) where
   tagged_apart [] a = tt
   tagged_apart (x ∷ xs) a = (λ h. a.0 (untagged x xs h), tagged_apart xs a.1)
 
+-- ---- rows of one place
+
+-- what passes stays
+stays : {X : Type 0} (test : X → Bool) (xs : List X) (x : X) → Has xs x → test x ≡ true → Has (filter test xs) x
+stays test [] x h e = elim h [ ]
+stays test (y ∷ xs) x (inl same) e = rw (subst (λ z. test z ≡ true) (sym same) e) (inl same)
+stays test (y ∷ xs) x (inr h) e = elim (test y) as (λ b. Has (cond b (y ∷ filter test xs) (filter test xs)) x) [ true ↦ inr (stays test xs x h e) | false ↦ stays test xs x h e ]
+
+-- a row is at its own place
+at_place : (row r : AnyRow) → words.table r ≡ words.table row → words.key r ≡ words.key row → is_at words (words.table row) (words.key row) r ≡ true
+at_place row r table key =
+    let own : is_at words (words.table row) (words.key row) row ≡ true = (rw (tied_itself place_total (place words row)) refl) in
+    subst (λ (p : ℕ × List ℕ). is_eq (place_cmp (words.table row, words.key row) p) ≡ true) (λ i. (sym table i, sym key i)) own
+
+stored_beside : (stored : List AnyRow) (row r : AnyRow) → Has stored r → words.table r ≡ words.table row → words.key r ≡ words.key row → Has (beside row stored) r
+stored_beside stored row r h table key = stays (is_at words (words.table row) (words.key row)) stored r h (at_place row r table key)
+
+state_beside : {stored : List AnyRow} (r : ObjectRow) (v : Version) (x : State) → SaysState stored (object_key r) v x → SaysState (beside (rows.Object r) stored) (object_key r) v x
+state_beside {stored = stored} r v x s = record {
+  row = s.row;
+  there = stored_beside stored (rows.Object r) (rows.Object s.row) s.there refl (ap (λ (k : Hash32 × List ℕ). k.0.0 ++ k.1) s.of_key);
+  of_key = s.of_key;
+  says = s.says;
+}
+
+block_beside : {stored : List AnyRow} (r : VersionRow) (p : Part) (b : BlockRef) → SaysBlock stored r.id p b → SaysBlock (beside (rows.Version r) stored) r.id p b
+block_beside {stored = stored} r p b s = record {
+  row = s.row;
+  there = stored_beside stored (rows.Version r) (rows.Version s.row) s.there refl (ap eight s.of_id);
+  of_id = s.of_id;
+  says = s.says;
+}
+
+-- beside a row there are no more entries than there are
+beside_fewer : (row : AnyRow) (rs : List AnyRow) → sum_of entries_in (beside row rs) ≤ sum_of entries_in rs
+beside_fewer row [] = omega arith
+beside_fewer row (r ∷ rs) =
+    let rest = beside_fewer row rs in
+    elim (is_at words (words.table row) (words.key row) r) as (λ b. sum_of entries_in (cond b (r ∷ beside row rs) (beside row rs)) ≤ entries_in r + sum_of entries_in rs) [ true ↦ omega (arith, rest) | false ↦ omega (arith, rest) ]
+
 -- ---- rows
 
 module _ (stored : List AnyRow) (spelled_all : AllByRecursion IsSpelled stored) where
@@ -157,7 +203,7 @@ module _ (stored : List AnyRow) (spelled_all : AllByRecursion IsSpelled stored) 
   ranges_of r h = ranges r (all_has IsSpelled stored r spelled_all h)
 
   -- a version of a stored row is in range, and so is its state, which is short
-  state_fits : (key : Hash32 × List ℕ) (v : Version) (x : State) → SaysState stored key v x → ((version_in_range v && state_in_range x) ≡ true) × (is_short_state x ≡ true)
+  pub state_fits : (key : Hash32 × List ℕ) (v : Version) (x : State) → SaysState stored key v x → ((version_in_range v && state_in_range x) ≡ true) × (is_short_state x ≡ true)
   state_fits key v x s =
       let is = ranges_of (rows.Object s.row) s.there in
       let es = map_entries s.row.versions in
@@ -192,46 +238,52 @@ module _ (stored : List AnyRow) (spelled_all : AllByRecursion IsSpelled stored) 
       subst (λ (k : Hash32 × ℕ). (is_hash k.0 ≡ true) × (is_eight k.1 ≡ true)) e
       ((and_parts (is_hash b.hash) _ (and_parts (part_in_range p) (block_in_range b) fits).1).0, (and_parts (is_eight row.id) _ (ranges_of (rows.Version row) h).0).0)
 
-  module _ (few : sum_of entries_in stored < 2 ^ 32) where
-    object_spelled : (r : ObjectRow) → IsMade stored (rows.Object r) → IsSpelled (rows.Object r)
-    object_spelled r made =
-        let es = map_entries r.versions in
-        let key = key_fits (object_key r) made.0 in
-        let says = entries_say r in
-        let fits : AllByRecursion (λ (e : Entry). ((version_in_range e.0 && state_in_range e.1.0) ≡ true) × (is_short_state e.1.0 ≡ true)) es =
-        all_weaker (λ (e : Entry). HasState r e.0 e.1.0) _ (λ e h. state_fits (object_key r) e.0 e.1.0 (made.1 e.0 e.1.0 h)) es says in
-        let tagged : List Said = map (λ e. (object_key r, e)) es in
-        let apart = tagged_apart (object_key r) es (apart_entries version_total es (apart_keys version_total es r.versions.ascending)) in
-        let inside : (x : Said) → Has tagged x → Has (flat_map said_in stored) x = mapped_all (λ e. (object_key r, e)) (Has (flat_map said_in stored)) es (all_weaker (λ (e : Entry). HasState r e.0 e.1.0) (λ (e : Entry). Has (flat_map said_in stored) (object_key r, e)) (λ e g. said_there stored (object_key r) e.0 e.1.0 (made.1 e.0 e.1.0 g)) es says) in
-        let low : total (λ (x : Said). 1) tagged ≤ total (λ (x : Said). 1) (flat_map said_in stored) = fewer (λ (x : Said). 1) tagged (flat_map said_in stored) apart inside in
-        let a = total_ones tagged in
-        let b = total_ones (flat_map said_in stored) in
-        let c = length-map {B = Said} es (λ e. (object_key r, e)) in
-        let d = all_count stored in
-        spelled_is (in_range (rows.Object r)) (has_bytes (rows.Object r)) (spelled (rows.Object r))
-        (and_both (is_hash r.bucket) _ key.0 (and_both (are_bytes r.key) _ key.1 (all_pass _ (λ (e : Entry). version_in_range e.0 && state_in_range e.1.0) (λ e h. h.0) es fits)))
-        (and_both (is_below r.key) _ key.2 (and_both (is_below es) _ (below_is es (omega (arith, low, a, b, c, d, few))) (all_pass _ (λ (e : Entry). is_short_state e.1.0) (λ e h. h.1) es fits)))
+  object_spelled : (r : ObjectRow) → IsMade stored (rows.Object r) → sum_of entries_in (beside (rows.Object r) stored) < 2 ^ 32 → IsSpelled (rows.Object r)
+  object_spelled r made few =
+      let es = map_entries r.versions in
+      let key = key_fits (object_key r) made.0 in
+      let says = entries_say r in
+      let near = beside (rows.Object r) stored in
+      let fits : AllByRecursion (λ (e : Entry). ((version_in_range e.0 && state_in_range e.1.0) ≡ true) × (is_short_state e.1.0 ≡ true)) es =
+      all_weaker (λ (e : Entry). HasState r e.0 e.1.0) _ (λ e h. state_fits (object_key r) e.0 e.1.0 (made.1 e.0 e.1.0 h)) es says in
+      let tagged : List Said = map (λ e. (object_key r, e)) es in
+      let apart = tagged_apart (object_key r) es (apart_entries version_total es (apart_keys version_total es r.versions.ascending)) in
+      let inside : (x : Said) → Has tagged x → Has (flat_map said_in near) x = mapped_all (λ e. (object_key r, e)) (Has (flat_map said_in near)) es (all_weaker (λ (e : Entry). HasState r e.0 e.1.0) (λ (e : Entry). Has (flat_map said_in near) (object_key r, e)) (λ e g. said_there near (object_key r) e.0 e.1.0 (state_beside r e.0 e.1.0 (made.1 e.0 e.1.0 g))) es says) in
+      let low : total (λ (x : Said). 1) tagged ≤ total (λ (x : Said). 1) (flat_map said_in near) = fewer (λ (x : Said). 1) tagged (flat_map said_in near) apart inside in
+      let a = total_ones tagged in
+      let b = total_ones (flat_map said_in near) in
+      let c = length-map {B = Said} es (λ e. (object_key r, e)) in
+      let d = all_count near in
+      spelled_is (in_range (rows.Object r)) (has_bytes (rows.Object r)) (spelled (rows.Object r))
+      (and_both (is_hash r.bucket) _ key.0 (and_both (are_bytes r.key) _ key.1 (all_pass _ (λ (e : Entry). version_in_range e.0 && state_in_range e.1.0) (λ e h. h.0) es fits)))
+      (and_both (is_below r.key) _ key.2 (and_both (is_below es) _ (below_is es (omega (arith, low, a, b, c, d, few))) (all_pass _ (λ (e : Entry). is_short_state e.1.0) (λ e h. h.1) es fits)))
 
-    version_spelled : (id : ℕ) (d : Deletable BlockMap) → IsMade stored (rows.Version (of_blocks id d)) → IsSpelled (rows.Version (of_blocks id d))
-    version_spelled id Deleted made = spelled_is (in_range (rows.Version (of_blocks id Deleted))) true (spelled (rows.Version (of_blocks id Deleted))) (and_both (is_eight id) true (id_fits id made.0) refl) refl
-    version_spelled id (Present m) made =
-        let es = map_entries m in
-        let says = blocks_say id (Present m) in
-        let fits : AllByRecursion (λ (e : Place). (part_in_range e.0 && block_in_range e.1.0) ≡ true) es =
-        all_weaker (λ (e : Place). HasBlock (of_blocks id (Present m)) e.0 e.1.0) _ (λ e h. block_fits id e.0 e.1.0 (made.1 e.0 e.1.0 h)) es says in
-        let tagged : List Laid = map (λ e. (id, e)) es in
-        let apart = tagged_apart id es (apart_entries part_total es (apart_keys part_total es m.ascending)) in
-        let inside : (x : Laid) → Has tagged x → Has (flat_map laid_in stored) x = mapped_all (λ e. (id, e)) (Has (flat_map laid_in stored)) es (all_weaker (λ (e : Place). HasBlock (of_blocks id (Present m)) e.0 e.1.0) (λ (e : Place). Has (flat_map laid_in stored) (id, e)) (λ e g. laid_there stored id e.0 e.1.0 (made.1 e.0 e.1.0 g)) es says) in
-        let low : total (λ (x : Laid). 1) tagged ≤ total (λ (x : Laid). 1) (flat_map laid_in stored) = fewer (λ (x : Laid). 1) tagged (flat_map laid_in stored) apart inside in
-        let a = total_ones tagged in
-        let b = total_ones (flat_map laid_in stored) in
-        let c = length-map {B = Laid} es (λ e. (id, e)) in
-        let d = all_count stored in
-        spelled_is (in_range (rows.Version (of_blocks id (Present m)))) (has_bytes (rows.Version (of_blocks id (Present m)))) (spelled (rows.Version (of_blocks id (Present m))))
-        (and_both (is_eight id) _ (id_fits id made.0) (all_pass _ (λ (e : Place). part_in_range e.0 && block_in_range e.1.0) (λ e h. h) es fits))
-        (and_both (is_below es) _ (below_is es (omega (arith, low, a, b, c, d, few))) (all_pass _ (λ (e : Place). true) (λ e h. refl) es fits))
+  version_spelled : (id : ℕ) (d : Deletable BlockMap) → IsMade stored (rows.Version (of_blocks id d)) → sum_of entries_in (beside (rows.Version (of_blocks id d)) stored) < 2 ^ 32 → IsSpelled (rows.Version (of_blocks id d))
+  version_spelled id Deleted made few = spelled_is (in_range (rows.Version (of_blocks id Deleted))) true (spelled (rows.Version (of_blocks id Deleted))) (and_both (is_eight id) true (id_fits id made.0) refl) refl
+  version_spelled id (Present m) made few =
+      let es = map_entries m in
+      let says = blocks_say id (Present m) in
+      let near = beside (rows.Version (of_blocks id (Present m))) stored in
+      let fits : AllByRecursion (λ (e : Place). (part_in_range e.0 && block_in_range e.1.0) ≡ true) es =
+      all_weaker (λ (e : Place). HasBlock (of_blocks id (Present m)) e.0 e.1.0) _ (λ e h. block_fits id e.0 e.1.0 (made.1 e.0 e.1.0 h)) es says in
+      let tagged : List Laid = map (λ e. (id, e)) es in
+      let apart = tagged_apart id es (apart_entries part_total es (apart_keys part_total es m.ascending)) in
+      let inside : (x : Laid) → Has tagged x → Has (flat_map laid_in near) x = mapped_all (λ e. (id, e)) (Has (flat_map laid_in near)) es (all_weaker (λ (e : Place). HasBlock (of_blocks id (Present m)) e.0 e.1.0) (λ (e : Place). Has (flat_map laid_in near) (id, e)) (λ e g. laid_there near id e.0 e.1.0 (block_beside (of_blocks id (Present m)) e.0 e.1.0 (made.1 e.0 e.1.0 g))) es says) in
+      let low : total (λ (x : Laid). 1) tagged ≤ total (λ (x : Laid). 1) (flat_map laid_in near) = fewer (λ (x : Laid). 1) tagged (flat_map laid_in near) apart inside in
+      let a = total_ones tagged in
+      let b = total_ones (flat_map laid_in near) in
+      let c = length-map {B = Laid} es (λ e. (id, e)) in
+      let d = all_count near in
+      spelled_is (in_range (rows.Version (of_blocks id (Present m)))) (has_bytes (rows.Version (of_blocks id (Present m)))) (spelled (rows.Version (of_blocks id (Present m))))
+      (and_both (is_eight id) _ (id_fits id made.0) (all_pass _ (λ (e : Place). part_in_range e.0 && block_in_range e.1.0) (λ e h. h) es fits))
+      (and_both (is_below es) _ (below_is es (omega (arith, low, a, b, c, d, few))) (all_pass _ (λ (e : Place). true) (λ e h. refl) es fits))
 
-    pub made_spelled : (r : AnyRow) → IsMade stored r → IsSpelled r
-    made_spelled (rows.Object r) made = object_spelled r made
-    made_spelled (rows.Version r) made = version_spelled r.id r.blocks made
-    made_spelled (rows.Ref r) made = let fits = ref_fits (ref_key r) made in spelled_is (in_range (rows.Ref r)) true (spelled (rows.Ref r)) (and_both (is_hash r.hash) (is_eight r.id) fits.0 fits.1) refl
+  -- few entries stand beside it
+  pub made_spelled_beside : (r : AnyRow) → IsMade stored r → sum_of entries_in (beside r stored) < 2 ^ 32 → IsSpelled r
+  made_spelled_beside (rows.Object r) made few = object_spelled r made few
+  made_spelled_beside (rows.Version r) made few = version_spelled r.id r.blocks made few
+  made_spelled_beside (rows.Ref r) made few = let fits = ref_fits (ref_key r) made in spelled_is (in_range (rows.Ref r)) true (spelled (rows.Ref r)) (and_both (is_hash r.hash) (is_eight r.id) fits.0 fits.1) refl
+
+  -- few entries there are
+  pub made_spelled : sum_of entries_in stored < 2 ^ 32 → (r : AnyRow) → IsMade stored r → IsSpelled r
+  made_spelled few r made = let less = beside_fewer r stored in made_spelled_beside r made (omega (arith, less, few))

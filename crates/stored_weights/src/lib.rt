@@ -12,7 +12,7 @@ ghost use Rattle.limit_rows.specs.Fitting.{weight};
 ghost use Rattle.machine_origins.specs.Origins.{ComesFrom};
 ghost use Rattle.object_schema.specs.Schema.{words};
 ghost use Rattle.table_model.specs.Rows.{AllProper, row_at, rows as rows_of};
-ghost use Rattle.stored_weights.specs.Stored.{IsSpelled, entries_in, sum_of, AreOfDifferentPlaces};
+ghost use Rattle.stored_weights.specs.Stored.{IsSpelled, entries_in, sum_of, beside, AreOfDifferentPlaces};
 
 use crdt_rows::{
     object_rows_join_as_facts, reference_rows_join_as_facts, version_rows_join_as_facts,
@@ -22,6 +22,16 @@ use crdt_rows::{
 pub fn rows_from_stored_rows_have_a_spelling()
     ensures { (stored : List AnyRow) (row : AnyRow) → AllByRecursion IsSpelled stored →
         sum_of entries_in stored < 2 ^ 32 → ComesFrom any_join words stored row → IsSpelled row }
+{
+    object_rows_join_as_facts();
+    version_rows_join_as_facts();
+    reference_rows_join_as_facts();
+}
+
+/// Where stored rows have spellings, and those of the row's own table and key have fewer than 2^32 entries together, a row that
+/// comes from stored rows has one, however many entries there are at other places.
+pub fn rows_with_few_entries_beside_them_have_a_spelling()
+    ensures { (stored : List AnyRow) (row : AnyRow) → AllByRecursion IsSpelled stored → sum_of entries_in (beside row stored) < 2 ^ 32 → ComesFrom any_join words stored row → IsSpelled row }
 {
     object_rows_join_as_facts();
     version_rows_join_as_facts();

@@ -1,0 +1,5 @@
+pub mod Rows
+pub mod Going
+pub mod Within
+pub mod Growing
+pub mod Acting
