@@ -15,7 +15,7 @@ use Rattle.prompt_laws.specs.Times.{CollectsInTime}
 use Rattle.prompt_laws.proofs.Safely.{TimelyTurnsArePrompt, collects_safely}
 use Rattle.audit_laws.specs.Account.{blunt}
 use Rattle.audit_runs.proofs.Cuts.{same_end}
-use Rattle.audit_runs.proofs.Fit.{turns_fit}
+use Rattle.limit_laws.proofs.Fit.{turns_fit}
 use Rattle.audit_accounts.specs.Runs.{AreOfSchedule, history_told}
 
 -- a history that is fresh is so without identifiers of superseded ends

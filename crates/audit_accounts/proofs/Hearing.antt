@@ -28,11 +28,11 @@ use Rattle.store_model.specs.Run.{World, State, Outcome, start}
 use Rattle.store_model.specs.Events.{object_bytes, Turn, act_of, act_of_turn, outcome_of, run}
 use Rattle.audit_model.specs.declared.said.Said.{Said}
 use Rattle.audit_model.specs.Heard.{Heard, Asking, nothing_heard, heard, hears, hears_all, quiet, asking_of, accepts, tells}
-use Rattle.audit_laws.specs.Account.{record_told, records_told, blunt, began_record, began_of, IsOuterAct, NoneGivenUp}
+use Rattle.audit_laws.specs.Account.{record_told, records_told, blunt, began_record, began_of, NoneGivenUp}
 use Rattle.audit_laws.specs.Told.{told_of, AreHeard, event_said, asked_by, IsAnswered, asked_after, CanBeHeard, TurnsCanBeHeard, requests_after}
 use Rattle.audit_laws.proofs.Account.{act_adds}
 use Rattle.audit_laws.proofs.GivenUp.{event_goes}
-use Rattle.audit_laws.proofs.Hearing.{hears_append, line_heard}
+use Rattle.audit_laws.proofs.Hearing.{hears_append, line_heard, outer}
 use Rattle.audit_sheets.specs.Sheets.{sheet_said}
 use Rattle.audit_accounts.specs.Saying.{says_all, event_says_all, turns_say_all, shown_said, nodes_said, tail_said, transcript_says}
 
@@ -134,36 +134,6 @@ own_adds e (Some a) None (Idle read least) asked history ok = absurd ok
 own_adds e (Some a) None (Two x y) asked history ok = absurd ok
 
 -- ---- turns
-
--- each act of a schedule is no step of a request
-outer : (e : Event) (choice : Decision) → IsOuterAct (act_of e choice)
-outer event.Trio choice = tt
-outer (event.Block size) choice = tt
-outer (event.Bucket name) choice = tt
-outer (event.Role n role) choice = tt
-outer (event.Redundancy wanted) choice = tt
-outer (event.Apply n) choice = tt
-outer (event.Tick ms) choice = tt
-outer (event.Skew n ms) choice = tt
-outer (event.Put n bucket key size fill) choice = tt
-outer (event.Get n bucket key) choice = tt
-outer (event.Head n bucket key) choice = tt
-outer (event.Delete n bucket key) choice = tt
-outer (event.Copy n from_bucket from_key bucket key) choice = tt
-outer (event.List n bucket prefix) choice = tt
-outer (event.Deliver m) choice = tt
-outer (event.Lose m) choice = tt
-outer (event.Drain n) choice = tt
-outer (event.Expire q) choice = tt
-outer (event.Restart n) choice = tt
-outer (event.Gossip from to) choice = tt
-outer (event.Ack n) choice = tt
-outer (event.Sync n) choice = tt
-outer (event.SyncAck n) choice = tt
-outer (event.Clean n) choice = tt
-outer (event.Work n) choice = tt
-outer (event.Repair n) choice = tt
-outer (event.Collect n) choice = tt
 
 module _ (silent : SheetsAreQuiet) (events : List Numbered) where
   event_adds : (asked : List (ℕ × Kind)) (history : List Record) (e : Numbered) (choice : Decision) (o : Outcome) → CanBeHeard events asked e o →

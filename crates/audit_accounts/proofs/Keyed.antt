@@ -23,7 +23,7 @@ use Rattle.store_laws.proofs.Hashing.{FitIn, fit_in}
 use Rattle.audit_runs.specs.Alike.{DifferInCut, DifferInCuts}
 use Rattle.audit_accounts.specs.Saying.{IsKeyedLine, TellKeyed}
 use Rattle.audit_runs.proofs.Cuts.{turn_alike}
-use Rattle.audit_runs.proofs.Fit.{event_fits}
+use Rattle.limit_laws.proofs.Fit.{event_fits}
 use Rattle.audit_runs.proofs.Telling.{GivenTells, HasPlain}
 use Rattle.audit_runs.proofs.Keys.{AreOfKeys}
 use Rattle.audit_runs.proofs.Events.{event_keyed, event_tells}

@@ -1,7 +1,6 @@
 pub mod Lines
 pub mod Hearing
 pub mod Flows
-pub mod Named
 pub mod Known
 pub mod Turns
 pub mod Nodes

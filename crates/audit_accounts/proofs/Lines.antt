@@ -6,11 +6,8 @@ use Rattle.std.specs.List.{AllByRecursion, list_all, join_with_byte}
 use Rattle.std.proofs.lemmas.Bool.{and_parts, and_from, eqb-true}
 use Rattle.hex.specs.Hex.{encode_lower}
 use Rattle.layout_roles.specs.Names.{is_name_byte, is_zone_name}
-use Rattle.cluster_machine.specs.declared.line.DoneWord.{DoneWord}
 use Rattle.cluster_machine.specs.declared.line.DoneWord.TheVariants as done
-use Rattle.cluster_machine.specs.declared.line.EndWord.{EndWord}
 use Rattle.cluster_machine.specs.declared.line.EndWord.TheVariants as ending
-use Rattle.cluster_machine.specs.declared.line.SentKind.{SentKind}
 use Rattle.cluster_machine.specs.declared.line.SentKind.TheVariants as kind
 use Rattle.cluster_machine.specs.declared.step.Refusal.{Refusal}
 use Rattle.cluster_machine.specs.declared.step.Refusal.TheVariants.{VersionTaken, VersionLimit, NotMember, NoSuchBucket, NoSuchMessage, Lost, NoSuchRequest, AlreadyEnded, TooFewNodes, TooFewZones, NoAssignment}
@@ -18,7 +15,6 @@ use Rattle.cluster_machine.specs.declared.step.Words.{Words}
 use Rattle.cluster_machine.specs.declared.step.Words.TheVariants.{Empty, One, Idle, Two}
 use Rattle.store_model.specs.declared.event.Numbered.{Numbered}
 use Rattle.text_model.specs.Grammar.{is_key, is_key_byte, lines_of}
-use Rattle.text_model.specs.Transcript.{kind_text, done_text, end_word}
 use Rattle.audit_model.specs.declared.said.Told.{Told}
 use Rattle.audit_model.specs.declared.said.Told.TheVariants.{Accepted, Refused}
 use Rattle.audit_model.specs.declared.said.Answered.{Answered}
@@ -30,6 +26,7 @@ use Rattle.audit_model.specs.Heard.{Heard, Hears, hears, hears_all}
 use Rattle.audit_laws.specs.Told.{saids_text}
 use Rattle.audit_runs.proofs.Lines.{Free, free_both, decimal_free, first_line}
 use Rattle.audit_runs.proofs.Tails.{hex_free}
+use Rattle.audit_runs.proofs.Tellings.{kind_free, done_free, end_free}
 use Rattle.audit_accounts.specs.Saying.{line_said}
 
 -- ---- words without a line feed
@@ -76,38 +73,6 @@ zones_free (z ∷ zs) h =
 
 version_free : (v : ℕ × ℕ) → Free 10 (version_word v)
 version_free v = free_both 10 (decimal v.0) (47 ∷ decimal v.1) (number_free v.0) (number_free v.1)
-
-kind_free : (k : SentKind) → Free 10 (kind_text k)
-kind_free kind.Get = refl
-kind_free kind.Row = refl
-kind_free kind.Range = refl
-kind_free kind.Rows = refl
-kind_free kind.Store = refl
-kind_free kind.Stored = refl
-kind_free kind.Behind = refl
-kind_free kind.NotHere = refl
-kind_free kind.BlockGet = refl
-kind_free kind.Block = refl
-kind_free kind.NoBlock = refl
-kind_free kind.Tomb = refl
-kind_free kind.Tombed = refl
-kind_free kind.Forget = refl
-kind_free kind.Walk = refl
-kind_free kind.Same = refl
-kind_free kind.Differ = refl
-kind_free kind.View = refl
-
-done_free : (w : DoneWord) → Free 10 (done_text w)
-done_free done.Put = refl
-done_free done.Get = refl
-done_free done.Head = refl
-done_free done.Delete = refl
-done_free done.Copy = refl
-
-end_free : (w : EndWord) → Free 10 (end_word w)
-end_free ending.Expired = refl
-end_free ending.Restarted = refl
-end_free ending.Superseded = refl
 
 refusal_free : (r : Refusal ℕ) → AreFree (refusal_words r)
 refusal_free (VersionTaken v) = (refl, (number_free v, tt))

@@ -51,7 +51,7 @@ use Rattle.audit_accounts.proofs.Flows.{IsNext, next_is, started_is}
 use Rattle.audit_accounts.proofs.Marks.{marks_named}
 use Rattle.audit_accounts.proofs.Worlds.{LineFits, LinesFit, AnswerFits, WorldNamed, IsSmall, step_named, next_named}
 use Rattle.audit_accounts.proofs.Views.{views_named}
-use Rattle.audit_accounts.proofs.Windows.{WindowFits, receives_shown}
+use Rattle.audit_accounts.proofs.Windows.{WindowFits, receives_fits}
 use Rattle.audit_accounts.proofs.Values.{VersionFits, ListFits, StageNumbered, gives_numbers, end_numbers}
 
 -- ---- requests
@@ -208,7 +208,7 @@ module _ (facts : Facts) (stays : StaysSound any_join words) where
           let early = fits.early in
           let packet = all_numbered (IsSent any_join words (RowFits v) Short fits.asks) s.world.messages i x fits.rows.messages e in
           let one = receives_end facts t v within fits.asks count x.to (s.world.nodes x.to) (fits.rows.nodes x.to) (fits.sound.different x.to) k (fits.nodes x.to) (clock s.world x.to) x.from x.packet packet in
-          let two = receives_shown facts t v within fits.asks count x.to (s.world.nodes x.to) (fits.rows.nodes x.to) (clock s.world x.to) x.from x.packet packet in
+          let two = receives_fits facts t v within fits.asks count x.to (s.world.nodes x.to) (fits.rows.nodes x.to) (clock s.world x.to) x.from x.packet packet in
           elim mark.is_lost as (λ c. AllByRecursion (EndNumbered v) (cond c (step_refusal s.world Lost) (delivered x)).ends) [ true ↦ tt | false ↦ both_ends count (omega arith) v _ one two ]
 
   -- what a delivery tells, and what its event does

@@ -23,7 +23,7 @@ use Rattle.audit_runs.specs.Whole.{AreNumbered}
 use Rattle.audit_runs.proofs.Cuts.{same_events}
 use Rattle.audit_accounts.specs.Saying.{TellKeyed, TellOrderly, transcript_says}
 use Rattle.audit_accounts.specs.Runs.{AreOfSchedule, history_told}
-use Rattle.audit_accounts.proofs.Named.{IsFound, all_found}
+use Rattle.audit_runs.proofs.Staging.{IsFound, all_found}
 use Rattle.audit_accounts.proofs.Hearing.{SheetsAreQuiet}
 use Rattle.audit_accounts.proofs.Turns.{AreTold, turns_heard, start_known}
 use Rattle.audit_accounts.proofs.Steps.{first_here}

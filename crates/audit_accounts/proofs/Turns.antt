@@ -29,7 +29,7 @@ use Rattle.audit_laws.proofs.Answering.{event_answers}
 use Rattle.audit_runs.specs.Alike.{DifferInCuts}
 use Rattle.audit_runs.proofs.Cuts.{turn_alike}
 use Rattle.audit_accounts.specs.Saying.{IsTold}
-use Rattle.audit_accounts.proofs.Named.{IsFound}
+use Rattle.audit_runs.proofs.Staging.{IsFound}
 use Rattle.audit_accounts.proofs.Known.{StaysSound, KnownIn, AreFine, OutKnown, delivers_known, drains_known, step_fine, plain_known, opened_known}
 
 heard_of : (asked : List (ℕ × Kind)) (ls : List (Line Applied)) → AreFine asked ls → AreHeard asked ls

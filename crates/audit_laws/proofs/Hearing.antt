@@ -183,8 +183,8 @@ event_heard events asked history e choice o ok =
 
 -- ---- turns
 
--- each act of these turns is one of a schedule, no step of a request
-outer : (e : Event) (choice : Decision) → IsOuterAct (act_of e choice)
+-- each act of a schedule is no step of a request
+pub outer : (e : Event) (choice : Decision) → IsOuterAct (act_of e choice)
 outer event.Trio choice = tt
 outer (event.Block size) choice = tt
 outer (event.Bucket name) choice = tt

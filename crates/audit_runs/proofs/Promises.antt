@@ -13,7 +13,7 @@ use Rattle.prompt_laws.proofs.Safely.{TimelyTurnsArePrompt, collects_safely}
 use Rattle.audit_runs.specs.Alike.{DifferInCuts}
 use Rattle.audit_runs.specs.Kept.{IsKeptBeside}
 use Rattle.audit_runs.proofs.Cuts.{same_end}
-use Rattle.audit_runs.proofs.Fit.{turns_fit}
+use Rattle.limit_laws.proofs.Fit.{turns_fit}
 use Rattle.std.proofs.lemmas.List.{append-nil}
 
 -- the events of others are allowed too

@@ -28,7 +28,7 @@ use Rattle.audit_runs.proofs.Tails.{hex_free, and_number}
 
 -- ---- requests and messages
 
-kind_free : (k : SentKind) → Free 10 (kind_text k)
+pub kind_free : (k : SentKind) → Free 10 (kind_text k)
 kind_free kind.Get = refl
 kind_free kind.Row = refl
 kind_free kind.Range = refl
@@ -48,14 +48,14 @@ kind_free kind.Same = refl
 kind_free kind.Differ = refl
 kind_free kind.View = refl
 
-done_free : (w : DoneWord) → Free 10 (done_text w)
+pub done_free : (w : DoneWord) → Free 10 (done_text w)
 done_free done.Put = refl
 done_free done.Get = refl
 done_free done.Head = refl
 done_free done.Delete = refl
 done_free done.Copy = refl
 
-end_free : (w : EndWord) → Free 10 (end_word w)
+pub end_free : (w : EndWord) → Free 10 (end_word w)
 end_free ending.Expired = refl
 end_free ending.Restarted = refl
 end_free ending.Superseded = refl

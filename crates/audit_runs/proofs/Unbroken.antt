@@ -29,7 +29,7 @@ use Rattle.audit_model.specs.Audit.{staged_in}
 use Rattle.audit_runs.specs.Alike.{DifferInCut, DifferInCuts}
 use Rattle.audit_runs.specs.Whole.{TellUnbroken, is_unbroken, IsUnbroken}
 use Rattle.audit_runs.proofs.Cuts.{turn_alike}
-use Rattle.audit_runs.proofs.Fit.{event_fits}
+use Rattle.limit_laws.proofs.Fit.{event_fits}
 use Rattle.audit_runs.proofs.Staging.{EventsStage}
 use Rattle.audit_runs.proofs.Telling.{GivenTells, HasPlain}
 use Rattle.audit_runs.proofs.Zones.{AreWholeRoles, key_unbroken, names_whole, staged_stay_whole}

@@ -15,7 +15,7 @@ use Rattle.k2v_api.specs.declared.stop.Stop.TheVariants.{Write, Memory, TooManyE
 use Rattle.k2v_text.specs.Played.{Step, deliveries, GoesOn}
 use Rattle.k2v_replay.specs.Replay.{SendsTooMuch, LacksRoom, StopsAt}
 use Rattle.k2v_api.specs.Turning.{TakesStep, StepIs, StepStops, Delivers, DrainStops}
-use Rattle.k2v_replay.proofs.Turns.{all_push}
+use Rattle.crdt_core.proofs.Each.{all_append}
 
 -- a delivery as a step
 abbrev pub delivered : State → ℕ → Step
@@ -67,7 +67,7 @@ module _ (first now : ItemWorld) (lines : List ItemLine) (left rest n m : ℕ) (
         state = o.state;
         stands = did.stands;
         steps = h.steps ++ here ∷ [];
-        go_on = all_push GoesOn h.steps here h.go_on did.goes_on;
+        go_on = all_append GoesOn h.steps (here ∷ []) h.go_on (did.goes_on, tt);
         steps_are = h.steps_are ∙ ap (λ xs. h.steps ++ xs) (deliveries_left h.state h.stands) ∙ sym (append_assoc h.steps (here ∷ []) (deliveries rest o.state));
         state_is = h.state_is ∙ ap (λ (x : Outcome). x.state) (drains_left h.state h.stands);
         lines_are =

@@ -3,6 +3,8 @@ use Rattle.std.proofs.Common.{◌≡◌, ◌+◌, ◌≤◌, ◌⊎◌, inl, inr
 use Rattle.std.specs.List.{AllByRecursion}
 use Rattle.std.proofs.lemmas.Bool.{cases_lt}
 use Rattle.cluster_machine.specs.Worlds.{FitAll, HaveRoom, next}
+use Rattle.crdt_core.proofs.Each.{all_append}
+use Rattle.machine_origins.proofs.Lists.{all_parts}
 use Rattle.lab_outside.specs.declared.exit.Status.TheVariants.{Done, Limit}
 use Rattle.text_model.specs.Played.{sent_limit}
 use Rattle.k2v_rows.specs.Row.{row_join}
@@ -14,7 +16,7 @@ use Rattle.k2v_text.specs.Played.{Step, events_of, steps_of, GoesOn, IsLawful, A
 use Rattle.k2v_text.specs.Transcript.{transcript}
 use Rattle.k2v_limits.specs.Limits.{AreAllowed, AreScheduled}
 use Rattle.k2v_replay.specs.Replay.{sent_line, front, SendsTooMuch, StopsAt, CutOff, IsReplay, whole, sent}
-use Rattle.k2v_replay.proofs.Turns.{all_push, run_push, played_none, played_push}
+use Rattle.k2v_replay.proofs.Turns.{run_push, played_none, played_push}
 use Rattle.k2v_replay.proofs.Leading.{AreSteps, are_steps, IsCounted, start_counted, run_counted, counted, event_counted}
 use Rattle.k2v_replay.proofs.Limits.{StepsHaveRoom, all_allowed, count_of}
 
@@ -34,7 +36,7 @@ module _ (steps : List Step) (room : (done : List Step) (last : Step) (later : L
       elim (cases_lt sent_limit bytes.0) [
         | inl more ↦ inr (record { before = done; last = x; later = later; whole = is; go_on = all; is_so = record { fits = fits; bytes = bytes.0; sent = bytes.1; beyond = more } })
         | inr within ↦
-            go_on_from later (done ++ x ∷ []) x.outcome.state are.2 here (all_push GoesOn done x all (record { fits = fits; bytes = bytes.0; sent = bytes.1; within = within }))
+            go_on_from later (done ++ x ∷ []) x.outcome.state are.2 here (all_append GoesOn done (x ∷ []) all (record { fits = fits; bytes = bytes.0; sent = bytes.1; within = within }, tt))
             (is ∙ sym (append_assoc done (x ∷ []) later))
       ]
 
@@ -53,7 +55,7 @@ module _ (room : StepsHaveRoom) (turns : List Turn) where
             let here : run start (before ++ t ∷ []) ≡ after s t = run_push start before t in
             turns_end ts (before ++ t ∷ []) (played_push before t played lawful.0 go_on)
             (subst (λ (y : State). IsCounted y.world) (sym here) (event_counted s t.numbered.event t.choice go_on known))
-            (all_push (λ (x : Turn). IsAllowed x.numbered.event) before t allowed left.0) left.1 (one_more before t ts few)
+            (all_append (λ (x : Turn). IsAllowed x.numbered.event) before (t ∷ []) allowed (left.0, tt)) left.1 (one_more before t ts few)
             (subst (λ (y : State). AreLawful y ts) (sym here) lawful.1) (is ∙ sym (append_assoc before (t ∷ []) ts))
         | inr stops ↦ inr (record { before = before; next = t; later = ts; whole = is; played = played; stops = stops })
       ]
@@ -76,10 +78,6 @@ events_at : (before : List Turn) (t : Turn) (later : List Turn) → events_of (b
 events_at [] t later = refl
 events_at (x ∷ xs) t later = ap (λ es. x.numbered ∷ es) (events_at xs t later)
 
-all_at : {A : Type 0} (P : A → Type 0) (before : List A) (x : A) (later : List A) → AllByRecursion P (before ++ x ∷ later) → P x
-all_at P [] x later h = h.0
-all_at P (y ∷ ys) x later h = all_at P ys x later h.1
-
 -- no step that goes on has sent too much
 within_or_beyond : (step : Step) → GoesOn step → SendsTooMuch step → ⊥
 within_or_beyond step h k =
@@ -90,7 +88,7 @@ pub never_played_and_cut_off : (turns : List Turn) → ArePlayed turns → CutOf
 never_played_and_cut_off turns played cut =
     let go_on : AllGoOn start (cut.before ++ cut.next ∷ cut.later) = subst (AllGoOn start) cut.whole played.go_on in
     let steps = go_on_at start cut.before cut.next cut.later go_on in
-    within_or_beyond cut.stops.last (all_at GoesOn cut.stops.before cut.stops.last cut.stops.later (subst (AllByRecursion GoesOn) cut.stops.whole steps)) cut.stops.is_so
+    within_or_beyond cut.stops.last (all_parts GoesOn cut.stops.before (cut.stops.last ∷ cut.stops.later) (subst (AllByRecursion GoesOn) cut.stops.whole steps)).1.0 cut.stops.is_so
 
 -- of played turns the whole transcript is stated
 pub played_are_stated : (turns : List Turn) → ArePlayed turns → IsReplay (events_of turns) Done (transcript turns)

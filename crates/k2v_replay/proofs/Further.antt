@@ -10,6 +10,8 @@ use Rattle.k2v_text.specs.Played.{events_of, AreLawful, ArePlayed}
 use Rattle.k2v_text.specs.Transcript.{event_text, turns_text, tail_text}
 use Rattle.k2v_limits.specs.Limits.{AreScheduled}
 use Rattle.k2v_replay.specs.Replay.{sent_line, front, AreFirst, CutOff, IsReplay, whole, GoesFurther}
+use Rattle.machine_origins.proofs.Lists.{all_parts}
+use Rattle.limit_laws.proofs.Cuts.{Cuts, after_all, within, cuts}
 use Rattle.k2v_replay.proofs.Lawful.{IsFine, start_fine, after_fine}
 use Rattle.k2v_replay.proofs.Ending.{AreAllowedEvents, given}
 use Rattle.k2v_replay.proofs.Cutting.{never_played_and_cut_off}
@@ -33,30 +35,9 @@ run_fine : (s : State) (ts : List Turn) → AreLawful s ts → IsFine s → IsFi
 run_fine s [] h k = k
 run_fine s (t ∷ ts) h k = run_fine (after s t) ts h.1 (after_fine s t h.0 k)
 
--- where a list of turns and what comes after it are cut at a turn, the cut lies after the list or within it
-data Cuts (ts before : List Turn) (next : Turn) : Type 0 where
-  after_all : (more : List Turn) → before ≡ ts ++ more → Cuts ts before next
-  within : (more : List Turn) → ts ≡ before ++ next ∷ more → Cuts ts before next
-
-cuts_push : (t b : Turn) (ts before : List Turn) (next : Turn) → t ≡ b → Cuts ts before next → Cuts (t ∷ ts) (b ∷ before) next
-cuts_push t b ts before next same (after_all more is) = after_all more (ap (λ xs. b ∷ xs) is ∙ ap (λ x. x ∷ ts ++ more) (sym same))
-cuts_push t b ts before next same (within more is) = within more (ap (λ xs. t ∷ xs) is ∙ ap (λ x. x ∷ before ++ next ∷ more) same)
-
-cuts : (ts us before : List Turn) (next : Turn) (later : List Turn) → ts ++ us ≡ before ++ next ∷ later → Cuts ts before next
-cuts [] us before next later e = after_all before refl
-cuts (t ∷ ts) us [] next later e = let same : t ≡ next = cc in within ts (ap (λ x. x ∷ ts) same)
-cuts (t ∷ ts) us (b ∷ before) next later e =
-    let same : t ≡ b = cc in
-    let rest : ts ++ us ≡ before ++ next ∷ later = cc in
-    cuts_push t b ts before next same (cuts ts us before next later rest)
-
-all_after : {A : Type 0} (P : A → Type 0) (xs ys : List A) → AllByRecursion P (xs ++ ys) → AllByRecursion P ys
-all_after P [] ys h = h
-all_after P (x ∷ xs) ys h = all_after P xs ys h.1
-
 allowed_after : (events first later : List NumberedItemEvent) → AreScheduled events → events ≡ first ++ later → AreAllowedEvents later
 allowed_after events first later s is =
-    let IsSo = λ (e : NumberedItemEvent). IsAllowed e.event in all_after IsSo first later (subst (AllByRecursion IsSo) is s.allowed)
+    let IsSo = λ (e : NumberedItemEvent). IsAllowed e.event in (all_parts IsSo first later (subst (AllByRecursion IsSo) is s.allowed)).1
 
 module _ (one : (turns : List Turn) → AreScheduled (events_of turns) → AreLawful start turns → ArePlayed turns ⊎ CutOff turns)
     (limit : (turns : List Turn) → AreLawful start turns → (cut : CutOff turns) → IsReplay (events_of turns) Limit (front cut.before ++ sent_line))

@@ -6,7 +6,6 @@ use Rattle.layout_roles.specs.declared.redundancy.Redundancy.TheVariants.{AtLeas
 use Rattle.wire_messages.specs.declared.phase.PhaseEnd.{PhaseEnd}
 use Rattle.wire_messages.specs.declared.phase.PhaseEnd.TheVariants.{Row, Kept, Window, Block}
 use Rattle.wire_messages.specs.declared.phase.Phase.TheVariants.{Store}
-use Rattle.cluster_machine.specs.declared.step.Step.{Step}
 use Rattle.cluster_machine.specs.declared.step.Step.TheVariants as step
 use Rattle.cluster_machine.specs.declared.step.Refusal.TheVariants.{VersionLimit, NotMember, NoSuchBucket}
 use Rattle.cluster_machine.specs.Node.{Ended}
@@ -21,7 +20,8 @@ use Rattle.store_model.specs.Events.{object_bytes}
 use Rattle.k2v_rows.specs.declared.value.K2vValue.{K2vValue}
 use Rattle.k2v_rows.specs.declared.value.K2vValue.TheVariants.{Deleted, Value}
 use Rattle.k2v_rows.specs.declared.k2v_row.K2vRow.{K2vRow}
-use Rattle.k2v_rows.specs.Row.{can_put, after_put}
+use Rattle.k2v_rows.specs.Row.{row_join, can_put, after_put}
+use Rattle.k2v_schema.specs.Schema.{words}
 use Rattle.k2v_model.specs.declared.order.Ask.{Ask}
 use Rattle.k2v_model.specs.declared.order.Ask.TheVariants.{Write, Read}
 use Rattle.k2v_model.specs.declared.order.Order.{Order}
@@ -35,7 +35,7 @@ use Rattle.k2v_text.specs.declared.event.ItemEvent.TheVariants.{Common, Put, Del
 use Rattle.k2v_text.specs.Events.{Turn, act_of, after}
 use Rattle.k2v_text.specs.Grammar.{IsAllowed}
 use Rattle.k2v_text.specs.Played.{outcome, IsLawful}
-use Rattle.k2v_replay.proofs.Staged.{AreStaged, IsInRange, step_fine, apply_lawful}
+use Rattle.layout_command.proofs.Staged.{AreStaged, IsInRange, in_range, step_fine, apply_lawful}
 
 -- what is staged is in its ranges
 pub record IsFine (s : State) : Type 0 where
@@ -45,7 +45,7 @@ pub start_fine : IsFine start
 start_fine = record { staged = record { ascend = refl; numbered = refl; wanted_in = tt } }
 
 doing_fine : (s : State) (m : Moving) → IsInRange m.step → IsFine s → IsFine (doing s m)
-doing_fine s m meant h = record { staged = step_fine s.world h.staged m.step m.choice meant }
+doing_fine s m meant h = record { staged = step_fine row_join words s.world h.staged m.step m.choice meant }
 
 -- what holds of two outcomes holds of one of them
 one_of : (b : Bool) (x y : Outcome) → IsFine x.state → IsFine y.state → IsFine (if b then x else y).state
@@ -141,30 +141,6 @@ drains_fine (suc n) s h =
       | None ↦ h
       | Some m ↦ drains_fine n (delivers s m).state (delivers_fine s m h)
     ]
-
--- what a step that is meant stages is in its range
-in_range : (st : Step K2vRow) → IsMeant st → IsInRange st
-in_range step.Trio meant = tt
-in_range (step.Role n role) meant = meant
-in_range (step.Redundancy wanted) meant = meant
-in_range (step.Apply n) meant = tt
-in_range (step.Tick ms) meant = tt
-in_range (step.Skew n ms) meant = tt
-in_range (step.Deliver m) meant = tt
-in_range (step.Lose m) meant = tt
-in_range (step.Expire q) meant = tt
-in_range (step.Restart n) meant = tt
-in_range (step.Gossip from to) meant = tt
-in_range (step.Ack n) meant = tt
-in_range (step.Sync n) meant = tt
-in_range (step.SyncAck n) meant = tt
-in_range (step.Clean n) meant = tt
-in_range (step.Work n) meant = tt
-in_range (step.Repair n) meant = tt
-in_range (step.Collect n) meant = tt
-in_range (step.Open n) meant = tt
-in_range (step.Phase q phase) meant = tt
-in_range (step.Close q) meant = tt
 
 moves_fine : (s : State) (m : Moving) → IsLawfulAct s (moves m) → IsFine s → IsFine (plain s m).state
 moves_fine s m lawful h = record { staged = (doing_fine s m (in_range m.step lawful.1) h).staged }

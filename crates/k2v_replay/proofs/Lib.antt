@@ -1,6 +1,5 @@
 pub mod Turns
 pub mod Leading
-pub mod Staged
 pub mod Lawful
 pub mod Limits
 pub mod Cutting

@@ -37,7 +37,3 @@ played_none = record { lawful = tt; go_on = tt }
 
 pub played_push : (ts : List Turn) (t : Turn) → ArePlayed ts → IsLawful (run start ts) t → AllByRecursion GoesOn (steps_of (run start ts) t.numbered.event t.choice) → ArePlayed (ts ++ t ∷ [])
 played_push ts t h lawful go_on = record { lawful = lawful_push start ts t h.lawful lawful; go_on = go_on_push start ts t h.go_on go_on }
-
-pub all_push : {A : Type 0} (P : A → Type 0) (xs : List A) (x : A) → AllByRecursion P xs → P x → AllByRecursion P (xs ++ x ∷ [])
-all_push P [] x h p = (p, tt)
-all_push P (y ∷ ys) x h p = (h.0, all_push P ys x h.1 p)

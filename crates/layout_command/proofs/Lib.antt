@@ -3,3 +3,4 @@ pub mod Computed
 pub mod Configured
 pub mod StatedMoves
 pub mod Printed
+pub mod Staged

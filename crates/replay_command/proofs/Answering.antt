@@ -22,7 +22,7 @@ use Rattle.replay_run.specs.declared.account.Account.{Account}
 use Rattle.replay_run.specs.declared.account.Account.TheVariants.{Transcript, Checked, Summary}
 use Rattle.replay_run.specs.Account.{closing, IsText}
 use Rattle.replay_run.specs.Replay.{IsReplay, whole, sent}
-use Rattle.replay_run.proofs.Leading.{played_fits}
+use Rattle.limit_laws.proofs.Fit.{turns_fit}
 use Rattle.replay_run.proofs.Limits.{all_allowed}
 use Rattle.replay_run.proofs.Checked.{line_is_fresh}
 use Rattle.store_anchors.specs.Promises.{WalksAreClear, KeepsPromises, EveryRunKeepsPromises}
@@ -62,7 +62,7 @@ statuses_agree account input s t a b (replayed events spells stated) (replayed o
 
 -- what is promised holds at each moment of turns that were played
 played_promises : EveryRunKeepsPromises → (turns : List Turn) → ArePlayed turns → AtEachMoment KeepsPromises (acts_of turns)
-played_promises kept turns played = kept (acts_of turns) played.lawful (played_fits start turns played.go_on)
+played_promises kept turns played = kept (acts_of turns) played.lawful (turns_fit start turns played.go_on)
 
 -- and turns of a schedule that were played are prompt if they are timely
 played_prompt : EveryFits → TimelyTurnsArePrompt → (input : List ℕ) (turns : List Turn) → IsSchedule input (events_of turns) → ArePlayed turns → IsPromptIfTimely (acts_of turns)

@@ -1,7 +1,6 @@
 -- Why a call gave up, in the words of its caller.
-use Rattle.std.proofs.Common.{◌≡◌, Result, Ok, Err, IfErr, ◌⊎◌, inl, inr, List, [], ◌∷◌, ◌++◌, sym, subst}
+use Rattle.std.proofs.Common.{◌≡◌, Result, Ok, Err, IfErr, ◌⊎◌, inl, inr, sym, subst}
 use Rattle.std.specs.Result.{IsErrAnd}
-use Rattle.std.specs.List.{AllByRecursion}
 use Rattle.crdt_core.specs.declared.memory.Memory.{Memory as Why}
 use Rattle.crdt_core.specs.declared.memory.Memory.TheVariants.{Want, Full}
 use Rattle.replay_run.specs.declared.stop.ReplayStop.{ReplayStop}
@@ -28,7 +27,3 @@ stopped r why P A is want full causes = given_up r (stop_of_memory why) P is (st
 
 pub wanting : {T : Type 0} (r : Result T ReplayStop) (why : Why) (P : ReplayStop → Type 0) → IsErrAnd r (λ x. x ≡ stop_of_memory why) → P Memory → why ≡ Want → IfErr r P
 wanting r why P is want e = stopped r why P ⊥ is want (λ no. absurd no) (inl e)
-
-pub all_push : {A : Type 0} (P : A → Type 0) (xs : List A) (x : A) → AllByRecursion P xs → P x → AllByRecursion P (xs ++ x ∷ [])
-all_push P [] x h p = (p, tt)
-all_push P (y ∷ ys) x h p = (h.0, all_push P ys x h.1 p)

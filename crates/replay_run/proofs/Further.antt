@@ -15,6 +15,8 @@ use Rattle.replay_run.specs.declared.account.Account.TheVariants.{Transcript, Ch
 use Rattle.replay_run.specs.Account.{front, opening, closing}
 use Rattle.replay_run.specs.Replay.{sent_line, AreFirst, CutOff, IsReplay, whole, GoesFurther}
 use Rattle.replay_run.proofs.Checked.{has_line}
+use Rattle.machine_origins.proofs.Lists.{all_parts}
+use Rattle.limit_laws.proofs.Cuts.{Cuts, after_all, within, cuts}
 use Rattle.replay_run.proofs.Lawful.{IsFine, start_fine, after_fine}
 use Rattle.replay_run.proofs.Meant.{allowed_is_meant}
 use Rattle.replay_run.proofs.Ending.{AreMeant, given}
@@ -44,31 +46,10 @@ run_fine : (s : State) (ts : List Turn) → AreLawful s ts → IsFine s → IsFi
 run_fine s [] h k = k
 run_fine s (t ∷ ts) h k = run_fine (after s t) ts h.1 (after_fine s t h.0 k)
 
--- where a list of turns and what comes after it are cut at a turn, the cut lies after the list or within it
-data Cuts (ts before : List Turn) (next : Turn) : Type 0 where
-  after_all : (more : List Turn) → before ≡ ts ++ more → Cuts ts before next
-  within : (more : List Turn) → ts ≡ before ++ next ∷ more → Cuts ts before next
-
-cuts_push : (t b : Turn) (ts before : List Turn) (next : Turn) → t ≡ b → Cuts ts before next → Cuts (t ∷ ts) (b ∷ before) next
-cuts_push t b ts before next same (after_all more is) = after_all more (ap (λ xs. b ∷ xs) is ∙ ap (λ x. x ∷ ts ++ more) (sym same))
-cuts_push t b ts before next same (within more is) = within more (ap (λ xs. t ∷ xs) is ∙ ap (λ x. x ∷ before ++ next ∷ more) same)
-
-cuts : (ts us before : List Turn) (next : Turn) (later : List Turn) → ts ++ us ≡ before ++ next ∷ later → Cuts ts before next
-cuts [] us before next later e = after_all before refl
-cuts (t ∷ ts) us [] next later e = let same : t ≡ next = cc in within ts (ap (λ x. x ∷ ts) same)
-cuts (t ∷ ts) us (b ∷ before) next later e =
-    let same : t ≡ b = cc in
-    let rest : ts ++ us ≡ before ++ next ∷ later = cc in
-    cuts_push t b ts before next same (cuts ts us before next later rest)
-
-all_after : {A : Type 0} (P : A → Type 0) (xs ys : List A) → AllByRecursion P (xs ++ ys) → AllByRecursion P ys
-all_after P [] ys h = h
-all_after P (x ∷ xs) ys h = all_after P xs ys h.1
-
 meant_after : (events first later : List Numbered) → AreScheduled events → events ≡ first ++ later → AreMeant later
 meant_after events first later s is k d lt =
     let IsSo = λ (e : Numbered). IsAllowed e.event in
-    allowed_is_meant _ (All-from_recursion IsSo later (all_after IsSo first later (subst (AllByRecursion IsSo) is s.allowed)) k d lt)
+    allowed_is_meant _ (All-from_recursion IsSo later (all_parts IsSo first later (subst (AllByRecursion IsSo) is s.allowed)).1 k d lt)
 
 module _ (one : (turns : List Turn) → AreScheduled (events_of turns) → AreLawful start turns → ArePlayed turns ⊎ CutOff turns)
     (limit : (account : Account) (turns : List Turn) → AreLawful start turns → (cut : CutOff turns) → IsReplay account (events_of turns) Limit (front account cut.before ++ sent_line))

@@ -1,8 +1,9 @@
 -- Each event of a schedule can be given something lawful.
 use Rattle.std.proofs.Common.{ℕ, zero, suc, Bool, true, false, if◌then◌else◌, Option, Some, None, List, [], ◌∷◌, length, refl}
 use Rattle.crdt_rows.specs.declared.any_row.AnyRow.{AnyRow}
+use Rattle.crdt_rows.specs.AnyRow.{any_join}
+use Rattle.object_schema.specs.Schema.{words}
 use Rattle.wire_messages.specs.declared.phase.PhaseEnd.{PhaseEnd}
-use Rattle.cluster_machine.specs.declared.step.Step.{Step}
 use Rattle.cluster_machine.specs.declared.step.Step.TheVariants as step
 use Rattle.cluster_machine.specs.declared.step.Refusal.TheVariants.{VersionLimit, NotMember, NoSuchBucket}
 use Rattle.cluster_machine.specs.Node.{Ended}
@@ -10,7 +11,6 @@ use Rattle.cluster_machine.specs.Layouts.{layouts}
 use Rattle.cluster_machine.specs.World.{clock, is_member_at, numbered, undelivered}
 use Rattle.cluster_machine.specs.Step.{none_given}
 use Rattle.cluster_machine.specs.Choices.{Decision}
-use Rattle.cluster_machine.specs.Worlds.{IsMeant}
 use Rattle.flow_model.specs.declared.order.Order.{Order}
 use Rattle.flow_model.specs.declared.order.Order.TheVariants as order
 use Rattle.flow_model.specs.declared.flow.Flow.{Flow}
@@ -26,7 +26,7 @@ use Rattle.store_model.specs.Acts.{moves, plain, IsLawfulAct}
 use Rattle.store_model.specs.Events.{Turn, object_bytes, act_of, outcome, after}
 use Rattle.store_model.specs.Turns.{IsLawful}
 use Rattle.s3_world.specs.Stands.{IsMeantEvent}
-use Rattle.replay_run.proofs.Staged.{AreStaged, IsInRange, step_fine, apply_lawful}
+use Rattle.layout_command.proofs.Staged.{AreStaged, IsInRange, in_range, step_fine, apply_lawful}
 
 -- what is staged is in its ranges
 pub record IsFine (s : State) : Type 0 where
@@ -36,7 +36,7 @@ pub start_fine : IsFine start
 start_fine = record { staged = record { ascend = refl; numbered = refl; wanted_in = tt } }
 
 doing_fine : (s : State) (m : Moving) → IsInRange m.step → IsFine s → IsFine (doing s m)
-doing_fine s m meant h = record { staged = step_fine s.world h.staged m.step m.choice meant }
+doing_fine s m meant h = record { staged = step_fine any_join words s.world h.staged m.step m.choice meant }
 
 -- what holds of two outcomes holds of one of them
 one_of : (b : Bool) (x y : Outcome) → IsFine x.state → IsFine y.state → IsFine (if b then x else y).state
@@ -89,30 +89,6 @@ drains_fine (suc n) s h =
       | None ↦ h
       | Some m ↦ drains_fine n (delivers s m).state (delivers_fine s m h)
     ]
-
--- what a step that is meant stages is in its range
-in_range : (st : Step AnyRow) → IsMeant st → IsInRange st
-in_range step.Trio meant = tt
-in_range (step.Role n role) meant = meant
-in_range (step.Redundancy wanted) meant = meant
-in_range (step.Apply n) meant = tt
-in_range (step.Tick ms) meant = tt
-in_range (step.Skew n ms) meant = tt
-in_range (step.Deliver m) meant = tt
-in_range (step.Lose m) meant = tt
-in_range (step.Expire q) meant = tt
-in_range (step.Restart n) meant = tt
-in_range (step.Gossip from to) meant = tt
-in_range (step.Ack n) meant = tt
-in_range (step.Sync n) meant = tt
-in_range (step.SyncAck n) meant = tt
-in_range (step.Clean n) meant = tt
-in_range (step.Work n) meant = tt
-in_range (step.Repair n) meant = tt
-in_range (step.Collect n) meant = tt
-in_range (step.Open n) meant = tt
-in_range (step.Phase q phase) meant = tt
-in_range (step.Close q) meant = tt
 
 moves_fine : (s : State) (m : Moving) → IsLawfulAct s (moves m) → IsFine s → IsFine (plain s m).state
 moves_fine s m lawful h = record { staged = (doing_fine s m (in_range m.step lawful.1) h).staged }

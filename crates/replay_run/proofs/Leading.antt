@@ -1,4 +1,4 @@
--- The moves of a step lead to its state, and so everything fits after an event whose steps go on.
+-- The moves of a step lead to its state, and how many bytes were sent is known after steps that go on.
 use Rattle.std.proofs.Common.{◌≡◌, ℕ, zero, suc, ◌<◌, ◌^◌, Bool, true, false, if◌then◌else◌, Option, Some, None, List, [], ◌∷◌, refl, sym, subst, arith}
 use Rattle.std.specs.Prelude.{⊤}
 use Rattle.std.specs.List.{AllByRecursion}
@@ -16,11 +16,9 @@ use Rattle.store_model.specs.Orders.{buckets_of}
 use Rattle.store_model.specs.declared.event.Event.{Event}
 use Rattle.store_model.specs.declared.event.Event.TheVariants.{Put, Get, Head, Delete, Copy, List as Keys, Deliver, Drain}
 use Rattle.store_model.specs.Run.{World, Moving, State, Outcome, silent, refusal, are_buckets, opened, begins, delivers, then_drains, drains, start}
-use Rattle.store_model.specs.Events.{Turn, object_bytes, outcome, after}
-use Rattle.store_model.specs.Turns.{AllFit}
+use Rattle.store_model.specs.Events.{object_bytes, outcome, after}
 use Rattle.store_model.proofs.Leads.{Leads, delivers_lead, drains_lead}
-use Rattle.s3_world.proofs.Parts.{fit_more}
-use Rattle.text_model.specs.Played.{Step, deliveries, steps_of, HasSent, GoesOn, AllGoOn}
+use Rattle.text_model.specs.Played.{Step, deliveries, steps_of, HasSent, GoesOn}
 
 one_leads : (s : State) (b : Bool) (x y : Outcome) → Leads s x → Leads s y → Leads s (if b then x else y)
 one_leads s true x y h k = h
@@ -76,27 +74,6 @@ delivered_end (suc n) s =
 pub steps_end : (s : State) (event : Event) (choice : Decision) → end_of s (steps_of s event choice) ≡ (outcome s event choice).state
 steps_end s (Drain n) choice = delivered_end n s
 steps_end s event choice = refl
-
--- everything fits after a drain whose deliveries go on
-delivered_fit : (n : ℕ) (s : State) → AllByRecursion GoesOn (deliveries n s) → FitAll any_join words s.world (drains n s).moves
-delivered_fit zero s = λ h. tt
-delivered_fit (suc n) s =
-    elim (undelivered s.world) as (λ o. AllByRecursion GoesOn (elim o as (λ o. List Step) [ None ↦ [] | Some m ↦ record { from = s; outcome = delivers s m } ∷ deliveries n (delivers s m).state ])
-    → FitAll any_join words s.world (elim o as (λ o. Outcome) [ None ↦ silent s | Some m ↦ let o = delivers s m in then_drains o (drains n o.state) ]).moves) [
-      | None ↦ λ h. tt
-      | Some m ↦ λ h.
-          let o : Outcome = delivers s m in
-          fit_more s.world o.moves (drains n o.state).moves h.0.fits (subst (λ w. FitAll any_join words w (drains n o.state).moves) (sym (delivers_lead s m)) (delivered_fit n o.state h.1))
-    ]
-
-steps_fit : (s : State) (event : Event) (choice : Decision) → AllByRecursion GoesOn (steps_of s event choice) → FitAll any_join words s.world (outcome s event choice).moves
-steps_fit s (Drain n) choice h = delivered_fit n s h
-steps_fit s event choice h = h.0.fits
-
--- everything fits after turns that were played
-pub played_fits : (s : State) (ts : List Turn) → AllGoOn s ts → AllFit s ts
-played_fits s [] h = tt
-played_fits s (t ∷ ts) h = (steps_fit s t.numbered.event t.choice h.0, played_fits (after s t) ts h.1)
 
 -- it is known how many bytes were sent
 abbrev pub IsCounted : World → Type 0

@@ -4,7 +4,6 @@ pub mod Leading
 pub mod Drains
 pub mod Stepping
 pub mod Running
-pub mod Staged
 pub mod Lawful
 pub mod Cutting
 pub mod Ending

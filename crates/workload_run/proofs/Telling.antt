@@ -26,7 +26,7 @@ use Rattle.replay_run.specs.declared.stop.ReplayStop.TheVariants.{Write, Memory,
 use Rattle.replay_run.specs.Account.{IsText, summary_lines, closing}
 use Rattle.replay_run.specs.Replay.{sent_line, ReplayLacksRoom, IsReplay, whole, sent}
 use Rattle.replay_run.specs.Stop.{IsPart, of_turns as part_of_turns, of_all, IsWhole, Halts, stop_of_memory}
-use Rattle.replay_run.proofs.Leading.{played_fits}
+use Rattle.limit_laws.proofs.Fit.{turns_fit}
 use Rattle.replay_run.proofs.Causes.{wanting}
 use Rattle.replay_run.proofs.Running.{part_none}
 use Rattle.replay_run.proofs.Checked.{line_is_fresh}
@@ -94,7 +94,7 @@ of_turns account events text (sent before stops e w) = cc
 -- what Done says
 module _ (always : EveryRunKeepsPromises) (count seed : ℕ) (old new : Option (List ℕ)) where
   kept : (turns : List Turn) → ArePlayed turns → AtEachMoment KeepsPromises (acts_of turns)
-  kept turns played = always (acts_of turns) played.lawful (played_fits start turns played.go_on)
+  kept turns played = always (acts_of turns) played.lawful (turns_fit start turns played.go_on)
 
   at_last : (turns : List Turn) → IsMoment (acts_of turns) (acts_of turns)
   at_last turns = between (acts_of turns) [] (sym (append-nil (acts_of turns)))

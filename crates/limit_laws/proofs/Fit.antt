@@ -1,4 +1,4 @@
--- Everything fits after turns whose steps go on.
+-- Everything fits after turns whose steps go on: of replays and of the audits of their texts.
 use Rattle.std.proofs.Common.{ℕ, zero, suc, Some, None, List, [], ◌∷◌, ◌++◌, sym, subst}
 use Rattle.std.specs.List.{AllByRecursion}
 use Rattle.crdt_rows.specs.AnyRow.{any_join}
