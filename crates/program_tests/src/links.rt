@@ -35,7 +35,7 @@ fn edge_fails(alloc: Global, read: u64, write: u64) -> Result<(Ended, bool), Fai
 /// A server of one connection to this port of loopback.
 fn served_on(rt: &HostRuntime, port: u16) -> Result<Ended, Fail> {
     let mut link = TcpLink::new(rt.alloc(), rt)?;
-    served_over(rt.alloc(), port, &mut link)
+    Ok(served_over(rt.alloc(), port, &mut link)?)
 }
 
 /// A listener on loopback, at a port that the system names.
