@@ -28,6 +28,7 @@ use Rattle.serve_limits.specs.Counts.{IsEvenAct, passes_in, opens_in, rounds_in,
 use Rattle.serve_limits.specs.Stamps.{IsLedTo, stamp_limit, DrewBy, AreStampedBy}
 use Rattle.serve_limits.proofs.Acts.{act_goes, acts_within, even_parts}
 use Rattle.serve_limits.proofs.Jobs.{Costs, IsFree, none_cost, sum_parts, costs_both, costs_wider, free_first, through_costs, parts_few}
+use Rattle.serve_limits.proofs.Begun.{never_parts}
 use Rattle.serve_limits.proofs.Drawing.{IsNear, Asks, delivers_draws, act_draws}
 
 -- all that a run does
@@ -98,11 +99,11 @@ module _ (every : EveryWorld Any) where
         let a = h.passes in
         let b = h.opens in
         let r = h.rounds in
-        record { passes = omega (arith, x, a); opens = omega (arith, y, b); rounds = omega (arith, z, r); even = (even_parts before after h.even).0 }
+        record { passes = omega (arith, x, a); opens = omega (arith, y, b); rounds = omega (arith, z, r); even = (even_parts before after h.even).0; never = (never_parts before after h.never).0 }
 
     last_within : (before : List Act) (n k : ℕ) (after : List Act) → Within (before ++ drain n ∷ after) → Within (before ++ drain k ∷ [])
     last_within before n k after h = costs_wider (time_limit + 0) (1000000 + 0) (3168 + 0) time_limit 1000000 3168 (before ++ drain k ∷ []) (omega arith) (omega arith) (omega arith)
-        (costs_both time_limit 1000000 3168 0 0 0 before (drain k ∷ []) (part_within before (drain n ∷ after) h) (free_first (drain k) [] (refl, refl, refl, tt) none_cost))
+        (costs_both time_limit 1000000 3168 0 0 0 before (drain k ∷ []) (part_within before (drain n ∷ after) h) (free_first (drain k) [] (refl, refl, refl, tt, tt) none_cost))
 
     moment_within : (moment : List Act) → IsMoment (acts_through c jobs) moment → Within moment
     moment_within moment (between before after is) = part_within before after (subst Within is all_within)
@@ -157,7 +158,7 @@ module _ (every : EveryWorld Any) where
         let h = moment_within moment is in
         let x = stands moment h lawful fit in
         let d = delivers_draws every s m ((fits.0, fits.1, λ d h. tt), tt) x.sound x.near in
-        drawn_in moment (delivery m) (free_within moment (delivery m) h (refl, refl, refl, tt)) x.few d
+        drawn_in moment (delivery m) (free_within moment (delivery m) h (refl, refl, refl, tt, tt)) x.few d
 
     pub act_drawn : (before : List Act) (act : Act) (later : List Act) → acts_through c jobs ≡ before ++ act ∷ later → AreLawfulActs begin before → ActsFit begin before →
         (let s = after_acts begin before in FitAll any_join words s.world (acted s act).moves → AreStampedBy stamp_limit (acted s act).new_versions)

@@ -2,7 +2,7 @@
 //!
 //! A server serves 1,000 connections at most, of 1,000 requests each, and no time of a request is past the greatest one.
 //! So its world's time and clocks, the numbers of its requests and of its nodes' rounds have their places in the code, and so
-//! have the timestamps that its writes draw.
+//! have the timestamps that its writes draw. No node of it begins a collection.
 #![tactic(auto)]
 
 ghost use Rattle.std.specs.Prelude.{◌≡◌, ◌≤◌, ◌<◌, ◌+◌, ◌^◌, ℕ, List, [], ◌∷◌, ◌++◌, length};
@@ -14,13 +14,14 @@ ghost use Rattle.cluster_machine.specs.Worlds.{FitAll, FitsAfter};
 ghost use Rattle.store_model.specs.Run.{State, start, plainly, delivers};
 ghost use Rattle.store_model.specs.Acts.{Act, acted, after_acts, AreLawfulActs, ActsFit};
 ghost use Rattle.store_model.specs.Moments.{IsMoment};
+ghost use Rattle.store_laws.specs.Hashed.{NeverCollect};
 ghost use Rattle.serve_model.specs.declared.buckets.Buckets.{Buckets};
 ghost use Rattle.serve_model.specs.Connections.{stated};
 ghost use Rattle.serve_model.specs.Stores.{Job};
 ghost use Rattle.serve_model.specs.Talk.{Grammar, Serving, time_limit};
 ghost use Rattle.serve_changes.specs.Changing.{Changing, changing, acts_through};
-ghost use Rattle.serve_limits.specs.Asked.{AreAskable, IsAtFirst, AsksAskable};
-ghost use Rattle.serve_limits.specs.Counts.{IsUpTo, AllAreUpTo, passes_in, opens_in, rounds_in, IsEvenAct, sum_in, AllCountsFit};
+ghost use Rattle.serve_limits.specs.Asked.{AreAskable, ArePlanned, IsAtFirst, AsksAskable};
+ghost use Rattle.serve_limits.specs.Counts.{IsUpTo, AllAreUpTo, passes_in, opens_in, rounds_in, IsEvenAct, sum_in, AllCountsFit, HaveBegun, AllHaveBegun};
 ghost use Rattle.serve_limits.specs.Stamps.{IsLedTo, stamp_limit, AreStampedBy, DrewBy};
 
 use object_schema::S3Schema;
@@ -47,6 +48,20 @@ pub fn clocks_and_counts_have_room()
         (before : List Act) (act : Act) (later : List Act) → acts_through c jobs ≡ before ++ act ∷ later →
         (let then = after_acts c.cluster.run before in
         AllCountsFit then.world (acted then act).moves) }
+{}
+
+/// Acts of which none is the step `collect` begin no collection: after each step of each of them no node has begun more than
+/// each had at most before all.
+pub fn collections_begin_by_collecting()
+    ensures { (k : ℕ) (s : State) (before : List Act) (act : Act) (later : List Act) → HaveBegun k s.world → NeverCollect (before ++ act ∷ later) →
+        (let then = after_acts s before in AllHaveBegun k then.world (acted then act).moves) }
+{}
+
+/// Whatever a server is asked, whether it is askable or not, and whether its acts fit or not: no node begins a collection.
+pub fn no_server_collects()
+    ensures { (k : ℕ) (c : Changing) (jobs : List (ℕ × Job)) → ArePlanned c.to_come → HaveBegun k c.cluster.run.world →
+        (before : List Act) (act : Act) (later : List Act) → acts_through c jobs ≡ before ++ act ∷ later →
+        (let then = after_acts c.cluster.run before in AllHaveBegun k then.world (acted then act).moves) }
 {}
 
 /// Over a cluster with changes to come a connection asks a job for each of its requests at most, each in the state to which those
