@@ -5,13 +5,14 @@
 //! have the timestamps that its writes draw. No node of it begins a collection.
 #![tactic(auto)]
 
-ghost use Rattle.std.specs.Prelude.{◌≡◌, ◌≤◌, ◌<◌, ◌+◌, ◌^◌, ℕ, List, [], ◌∷◌, ◌++◌, length};
-ghost use Rattle.std.specs.List.{AllByRecursion};
+ghost use Rattle.std.specs.Prelude.{◌≡◌, ◌≤◌, ◌<◌, ◌+◌, ◌^◌, ℕ, true, List, [], ◌∷◌, ◌++◌, length};
+ghost use Rattle.std.specs.List.{AllByRecursion, Contains};
 ghost use Rattle.crdt_rows.specs.AnyRow.{any_join};
+ghost use Rattle.row_codec.specs.Range.{version_in_range};
 ghost use Rattle.object_schema.specs.Schema.{words};
 ghost use Rattle.cluster_machine.specs.declared.step.Step.TheVariants.{Deliver};
 ghost use Rattle.cluster_machine.specs.Worlds.{FitAll, FitsAfter};
-ghost use Rattle.store_model.specs.Run.{State, start, plainly, delivers};
+ghost use Rattle.store_model.specs.Run.{Draw, State, start, plainly, delivers};
 ghost use Rattle.store_model.specs.Acts.{Act, acted, after_acts, AreLawfulActs, ActsFit};
 ghost use Rattle.store_model.specs.Moments.{IsMoment};
 ghost use Rattle.store_laws.specs.Hashed.{NeverCollect};
@@ -99,6 +100,21 @@ pub fn timestamps_have_room()
         (before : List Act) (act : Act) (later : List Act) → acts_through c jobs ≡ before ++ act ∷ later → AreLawfulActs c.cluster.run before → ActsFit c.cluster.run before →
         (let s = after_acts c.cluster.run before in FitAll any_join words s.world (acted s act).moves → AreStampedBy stamp_limit (acted s act).new_versions) }
     ensures fits { stamp_limit < 2 ^ 64 }
+{
+    every_world_is_sound::<S3Schema>();
+    every_world_has_kept_reads::<S3Schema>();
+    every_world_reads_stored_rows::<S3Schema>();
+    every_world_gives_windows::<S3Schema>();
+    every_installed_world_reads_what_was_kept::<S3Schema>();
+    every_world_collects_stored_objects::<S3Schema>();
+    nothing_is_collected_without_collect::<S3Schema>();
+}
+
+/// So each version that was drawn until such a moment is in range: it has the number of its request as its identifier.
+pub fn drawn_versions_are_in_range()
+    ensures { (c : Changing) (jobs : List (ℕ × Job)) → IsAtFirst c → IsLedTo c.cluster.run → AreAskable jobs →
+        (moment : List Act) → IsMoment (acts_through c jobs) moment → AreLawfulActs c.cluster.run moment → ActsFit c.cluster.run moment →
+        (d : Draw) → Contains (after_acts c.cluster.run moment).draws d → version_in_range d.version ≡ true }
 {
     every_world_is_sound::<S3Schema>();
     every_world_has_kept_reads::<S3Schema>();
