@@ -22,22 +22,24 @@ use Rattle.serve_model.specs.Stores.{Job, carry, keep, leave, order_of_job}
 use Rattle.serve_model.specs.Clusters.{Cluster, cluster, wait, acts_to_ask, works, delivered, round, fed_block, fed_acts, decided, received_acts, streamed, order_acts, carried_acts, acts_to_end, expiry, acts_past_end, end_in, acts_opened, acts_then, asking, acts_for, acts_of_job, acts_at, number_in}
 use Rattle.serve_changes.specs.Acts.{steps, stages_of, shows_acts, spreads_acts, each_acts, change_acts}
 use Rattle.serve_changes.specs.Changing.{Change, Changing, change_from, acts_in, changed, with_change, acts_due, acts_through}
+use Rattle.store_laws.specs.Hashed.{IsOtherAct, NeverCollect}
 use Rattle.serve_limits.specs.Counts.{passes_in, opens_in, rounds_in, IsEvenAct, sum_in}
 use Rattle.serve_limits.specs.Asked.{IsPlanned}
 
--- acts add so much time at most, so many requests and so many rounds, and put no clock ahead
+-- acts add so much time at most, so many requests and so many rounds, put no clock ahead, and don't collect
 pub record Costs (t q r : ℕ) (acts : List Act) : Type 0 where
   pub passes : sum_in passes_in acts ≤ t
   pub opens : sum_in opens_in acts ≤ q
   pub rounds : sum_in rounds_in acts ≤ r
   pub even : AllByRecursion IsEvenAct acts
+  pub never : NeverCollect acts
 
 -- an act that adds nothing
 abbrev pub IsFree : Act → Type 0
-IsFree a = (passes_in a ≡ 0) × (opens_in a ≡ 0) × (rounds_in a ≡ 0) × IsEvenAct a
+IsFree a = (passes_in a ≡ 0) × (opens_in a ≡ 0) × (rounds_in a ≡ 0) × IsEvenAct a × IsOtherAct a
 
 pub none_cost : Costs 0 0 0 []
-none_cost = record { passes = omega arith; opens = omega arith; rounds = omega arith; even = tt }
+none_cost = record { passes = omega arith; opens = omega arith; rounds = omega arith; even = tt; never = tt }
 
 pub sum_parts : (f : Act → ℕ) (first rest : List Act) → sum_in f (first ++ rest) ≡ sum_in f first + sum_in f rest
 sum_parts f [] rest = omega arith
@@ -54,14 +56,14 @@ costs_both t q r u p v first rest a b =
     let b0 = b.passes in
     let b1 = b.opens in
     let b2 = b.rounds in
-    record { passes = omega (arith, x, a0, b0); opens = omega (arith, y, a1, b1); rounds = omega (arith, z, a2, b2); even = all_append IsEvenAct first rest a.even b.even }
+    record { passes = omega (arith, x, a0, b0); opens = omega (arith, y, a1, b1); rounds = omega (arith, z, a2, b2); even = all_append IsEvenAct first rest a.even b.even; never = all_append IsOtherAct first rest a.never b.never }
 
 pub costs_wider : (t q r u p v : ℕ) (acts : List Act) → t ≤ u → q ≤ p → r ≤ v → Costs t q r acts → Costs u p v acts
 costs_wider t q r u p v acts x y z a =
     let a0 = a.passes in
     let a1 = a.opens in
     let a2 = a.rounds in
-    record { passes = omega (arith, a0, x); opens = omega (arith, a1, y); rounds = omega (arith, a2, z); even = a.even }
+    record { passes = omega (arith, a0, x); opens = omega (arith, a1, y); rounds = omega (arith, a2, z); even = a.even; never = a.never }
 
 -- acts that add nothing, one after the other
 free_both : (first rest : List Act) → Costs 0 0 0 first → Costs 0 0 0 rest → Costs 0 0 0 (first ++ rest)
@@ -75,7 +77,7 @@ free_first a rest h b =
     let b0 = b.passes in
     let b1 = b.opens in
     let b2 = b.rounds in
-    record { passes = omega (arith, x, b0); opens = omega (arith, y, b1); rounds = omega (arith, z, b2); even = (h.3, b.even) }
+    record { passes = omega (arith, x, b0); opens = omega (arith, y, b1); rounds = omega (arith, z, b2); even = (h.3, b.even); never = (h.4, b.never) }
 
 free_steps : (ms : List Moving) → AllByRecursion (λ (m : Moving). IsFree (moves m)) ms → Costs 0 0 0 (steps ms)
 free_steps [] a = none_cost
@@ -89,16 +91,16 @@ free_map f h (x ∷ xs) = (h x, free_map f h xs)
 
 works_free : (members : List ℕ) → Costs 0 0 0 (works members)
 works_free [] = none_cost
-works_free (n ∷ ns) = free_first (moves (plainly (Work n))) (works ns) (refl, refl, refl, tt) (works_free ns)
+works_free (n ∷ ns) = free_first (moves (plainly (Work n))) (works ns) (refl, refl, refl, tt, tt) (works_free ns)
 
 delivered_free : Costs 0 0 0 delivered
-delivered_free = free_first (drain all_messages) [] (refl, refl, refl, tt) none_cost
+delivered_free = free_first (drain all_messages) [] (refl, refl, refl, tt, tt) none_cost
 
 round_free : (members : List ℕ) → Costs 0 0 0 (round members)
 round_free members = free_both (works members) delivered (works_free members) delivered_free
 
 block_free : (q : ℕ) (bytes : List ℕ) → Costs 0 0 0 (fed_block q bytes)
-block_free q bytes = free_first (feeds q bytes) delivered (refl, refl, refl, tt) delivered_free
+block_free q bytes = free_first (feeds q bytes) delivered (refl, refl, refl, tt, tt) delivered_free
 
 either : (b : Bool) (xs ys : List Act) → Costs 0 0 0 xs → Costs 0 0 0 ys → Costs 0 0 0 (if b then xs else ys)
 either true xs ys h g = h
@@ -120,7 +122,7 @@ fed_free (suc more) s q bytes =
 decided_free : (keeping : Bool) (q : ℕ) (o : Option ℕ) → Costs 0 0 0 (decided keeping q o)
 decided_free keeping q None = none_cost
 decided_free keeping q (Some size) =
-    either (keeping && size == 0) (keeps q ∷ delivered) (gives_up q ∷ delivered) (free_first (keeps q) delivered (refl, refl, refl, tt) delivered_free) (free_first (gives_up q) delivered (refl, refl, refl, tt) delivered_free)
+    either (keeping && size == 0) (keeps q ∷ delivered) (gives_up q ∷ delivered) (free_first (keeps q) delivered (refl, refl, refl, tt, tt) delivered_free) (free_first (gives_up q) delivered (refl, refl, refl, tt, tt) delivered_free)
 
 streamed_free : (keeping : Bool) (s : State) (q : ℕ) (came : List ℕ) → Costs 0 0 0 (streamed keeping s q came)
 unfolding streamed
@@ -145,13 +147,13 @@ carried_free s q (keep u came) = streamed_free (length came == u.length) s q cam
 carried_free s q (leave u came) = streamed_free false s q came
 
 expiry_free : (q : ℕ) (end : Option FlowEnd) → Costs 0 0 0 (expiry q end)
-expiry_free q None = free_first (moves (plainly (Expire q))) [] (refl, refl, refl, tt) none_cost
+expiry_free q None = free_first (moves (plainly (Expire q))) [] (refl, refl, refl, tt, tt) none_cost
 expiry_free q (Some end) = none_cost
 
 past_free : (q : ℕ) (end : Option FlowEnd) → Costs 0 0 0 (acts_past_end q end)
 past_free q end =
-    free_first (takes q) (expiry q end ++ forgets ∷ []) (refl, refl, refl, tt)
-    (free_both (expiry q end) (forgets ∷ []) (expiry_free q end) (free_first forgets [] (refl, refl, refl, tt) none_cost))
+    free_first (takes q) (expiry q end ++ forgets ∷ []) (refl, refl, refl, tt, tt)
+    (free_both (expiry q end) (forgets ∷ []) (expiry_free q end) (free_first forgets [] (refl, refl, refl, tt, tt) none_cost))
 
 opened_free : (members : List ℕ) (s : State) (q : ℕ) (done : List Act) → Costs 0 0 0 done → Costs 0 0 0 (acts_opened members s q done)
 opened_free members s q done h =
@@ -168,7 +170,7 @@ job_costs : (members : List ℕ) (s : State) (ms : ℕ) (job : Job) → Costs ms
 job_costs members s ms job =
     let o = asking members s ms (order_of_job job) in
     let q = number_in o.words in
-    let asked : Costs ms 1 0 (acts_to_ask members ms (order_of_job job)) = record { passes = omega arith; opens = omega arith; rounds = omega arith; even = (tt, (tt, tt)) } in
+    let asked : Costs ms 1 0 (acts_to_ask members ms (order_of_job job)) = record { passes = omega arith; opens = omega arith; rounds = omega arith; even = (tt, (tt, tt)); never = (tt, (tt, tt)) } in
     let rest = then_free members o.state q (acts_for members o job) o.refused (carried_free o.state q job) in
     costs_wider (ms + 0) (1 + 0) (0 + 0) ms 1 0 (acts_of_job members s ms job) (omega arith) (omega arith) (omega arith)
     (costs_both ms 1 0 0 0 0 (acts_to_ask members ms (order_of_job job)) (acts_then members o.state q (acts_for members o job) o.refused) asked rest)
@@ -180,25 +182,25 @@ stages_free roles wanted =
     let none : ℕ → Moving = λ n. plainly (Stage n None) in
     let has : Role → Moving = λ r. plainly (Stage r.node (Some (r.zone, r.kind))) in
     free_steps (map none (range_with_len 1 16) ++ (map has roles ++ plainly (Spread wanted) ∷ []))
-    (all_append (λ (m : Moving). IsFree (moves m)) (map none (range_with_len 1 16)) (map has roles ++ plainly (Spread wanted) ∷ []) (free_map none (λ n. (refl, refl, refl, tt)) (range_with_len 1 16))
-    (all_append (λ (m : Moving). IsFree (moves m)) (map has roles) (plainly (Spread wanted) ∷ []) (free_map has (λ r. (refl, refl, refl, tt)) roles) ((refl, refl, refl, tt), tt)))
+    (all_append (λ (m : Moving). IsFree (moves m)) (map none (range_with_len 1 16)) (map has roles ++ plainly (Spread wanted) ∷ []) (free_map none (λ n. (refl, refl, refl, tt, tt)) (range_with_len 1 16))
+    (all_append (λ (m : Moving). IsFree (moves m)) (map has roles) (plainly (Spread wanted) ∷ []) (free_map has (λ r. (refl, refl, refl, tt, tt)) roles) ((refl, refl, refl, tt, tt), tt)))
 
 shows_free : (pairs : List (ℕ × ℕ)) → Costs 0 0 0 (shows_acts pairs)
 shows_free pairs =
     let shown : ℕ × ℕ → Moving = λ p. record { step = Gossip p.0 p.1; choice = none_given VersionLimit } in
-    free_both (steps (map shown pairs)) (drain all_messages ∷ []) (free_steps (map shown pairs) (free_map shown (λ p. (refl, refl, refl, tt)) pairs)) delivered_free
+    free_both (steps (map shown pairs)) (drain all_messages ∷ []) (free_steps (map shown pairs) (free_map shown (λ p. (refl, refl, refl, tt, tt)) pairs)) delivered_free
 
 spreads_free : (m : ℕ) (part : List ℕ) → Costs 0 0 0 (spreads_acts m part)
 spreads_free m part = free_both (shows_acts (to_one m part)) (shows_acts (from_one m part)) (shows_free (to_one m part)) (shows_free (from_one m part))
 
 acks_free : (part : List ℕ) → Costs 0 0 0 (each_acts Ack part)
-acks_free part = let does : ℕ → Moving = λ n. record { step = Ack n; choice = none_given VersionLimit } in free_steps (map does part) (free_map does (λ n. (refl, refl, refl, tt)) part)
+acks_free part = let does : ℕ → Moving = λ n. record { step = Ack n; choice = none_given VersionLimit } in free_steps (map does part) (free_map does (λ n. (refl, refl, refl, tt, tt)) part)
 
 sync_acks_free : (part : List ℕ) → Costs 0 0 0 (each_acts SyncAck part)
-sync_acks_free part = let does : ℕ → Moving = λ n. record { step = SyncAck n; choice = none_given VersionLimit } in free_steps (map does part) (free_map does (λ n. (refl, refl, refl, tt)) part)
+sync_acks_free part = let does : ℕ → Moving = λ n. record { step = SyncAck n; choice = none_given VersionLimit } in free_steps (map does part) (free_map does (λ n. (refl, refl, refl, tt, tt)) part)
 
 cleans_free : (part : List ℕ) → Costs 0 0 0 (each_acts Clean part)
-cleans_free part = let does : ℕ → Moving = λ n. record { step = Clean n; choice = none_given VersionLimit } in free_steps (map does part) (free_map does (λ n. (refl, refl, refl, tt)) part)
+cleans_free part = let does : ℕ → Moving = λ n. record { step = Clean n; choice = none_given VersionLimit } in free_steps (map does part) (free_map does (λ n. (refl, refl, refl, tt, tt)) part)
 
 syncs_cost : (part : List ℕ) → Costs 0 0 (length part) (each_acts Sync part)
 syncs_cost [] = none_cost
@@ -207,7 +209,7 @@ syncs_cost (n ∷ part) =
     let a0 = rest.passes in
     let a1 = rest.opens in
     let a2 = rest.rounds in
-    record { passes = omega (arith, a0); opens = omega (arith, a1); rounds = omega (arith, a2); even = (tt, rest.even) }
+    record { passes = omega (arith, a0); opens = omega (arith, a1); rounds = omega (arith, a2); even = (tt, rest.even); never = (tt, rest.never) }
 
 -- acts that add nothing before others, or behind them
 free_before : (r : ℕ) (first rest : List Act) → Costs 0 0 0 first → Costs 0 0 r rest → Costs 0 0 r (first ++ rest)
@@ -220,16 +222,16 @@ change_costs : (choice : Decision) (m : ℕ) (part : List ℕ) → Costs 0 0 (le
 change_costs choice m part =
     let r = length part in
     let applies = moves (record { step = Apply m; choice = choice }) in
-    let cleaned : Costs 0 0 0 (each_acts Clean part ++ forgets ∷ []) = free_both (each_acts Clean part) (forgets ∷ []) (cleans_free part) (free_first forgets [] (refl, refl, refl, tt) none_cost) in
+    let cleaned : Costs 0 0 0 (each_acts Clean part ++ forgets ∷ []) = free_both (each_acts Clean part) (forgets ∷ []) (cleans_free part) (free_first forgets [] (refl, refl, refl, tt, tt) none_cost) in
     let spread_last = free_both (spreads_acts m part) _ (spreads_free m part) cleaned in
     let acked_last = free_both (each_acts SyncAck part) _ (sync_acks_free part) spread_last in
     let spread_then = free_both (spreads_acts m part) _ (spreads_free m part) acked_last in
-    let drained = free_first (drain all_messages) _ (refl, refl, refl, tt) spread_then in
+    let drained = free_first (drain all_messages) _ (refl, refl, refl, tt, tt) spread_then in
     let synced = free_after r (each_acts Sync part) _ (syncs_cost part) drained in
     let spread_first = free_before r (spreads_acts m part) _ (spreads_free m part) synced in
     let acked = free_before r (each_acts Ack part) _ (acks_free part) spread_first in
     let shown = free_before r (shows_acts (from_one m part)) _ (shows_free (from_one m part)) acked in
-    free_before r (applies ∷ []) _ (free_first applies [] (refl, refl, refl, tt) none_cost) shown
+    free_before r (applies ∷ []) _ (free_first applies [] (refl, refl, refl, tt, tt) none_cost) shown
 
 planned_costs : (s : State) (ch : Change) → IsPlanned ch → Costs 0 0 (length ch.part) (acts_in s ch)
 planned_costs s ch h =
@@ -283,3 +285,22 @@ pub parts_few : (n : ℕ) (chs : List (ℕ × Change)) → Planned chs → lengt
 parts_few n [] planned low = omega arith
 parts_few zero (ch ∷ chs) planned low = absurd (omega (arith, low))
 parts_few (suc n) (ch ∷ chs) planned low = let one = planned.0.few in let rest = parts_few n chs planned.1 (omega (arith, low)) in omega (arith, one, rest)
+
+-- a limit that all times keep
+abbrev greatest_time : ℕ → List (ℕ × Job) → ℕ
+greatest_time least [] = least
+greatest_time least (j ∷ js) = j.0 + greatest_time least js
+
+more_least : (least : ℕ) (jobs : List (ℕ × Job)) → least ≤ greatest_time least jobs
+more_least least [] = omega arith
+more_least least (j ∷ js) = let rest = more_least least js in omega (arith, rest)
+
+all_early : (least n : ℕ) (jobs : List (ℕ × Job)) → greatest_time least jobs ≤ n → AllByRecursion (λ j. j.0 ≤ n) jobs
+all_early least n [] low = tt
+all_early least n (j ∷ js) low = (omega (arith, low), all_early least n js (omega (arith, low)))
+
+-- no act of a server collects
+pub server_never : (c : Changing) (jobs : List (ℕ × Job)) → Planned c.to_come → NeverCollect (acts_through c jobs)
+server_never c jobs planned =
+    let limit = greatest_time c.cluster.ticked jobs in
+    (through_costs limit c jobs (more_least c.cluster.ticked jobs) (all_early c.cluster.ticked limit jobs (omega arith)) planned).never

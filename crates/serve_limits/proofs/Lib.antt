@@ -1,6 +1,8 @@
 pub mod Rounds
 pub mod Steps
+pub mod Collections
 pub mod Acts
+pub mod Begun
 pub mod Jobs
 pub mod Room
 pub mod Talking

@@ -1,6 +1,6 @@
--- What a node does begins no round or repair, but where it goes on with its rounds, or repairs.
-use Rattle.std.specs.Prelude.{◌≡◌, ◌≤◌, ◌+◌, ℕ, suc, Bool, true, false, ◌==◌, ◌&&◌, leb, nat_lt, not, cond, List, [], ◌∷◌, ◌++◌, Option, Some, None, map, refl}
-use Rattle.std.proofs.Common.{◌∙◌, arith}
+-- What a node does begins no round or repair, but where it goes on with its rounds, or repairs; and no collection, but where it collects.
+use Rattle.std.specs.Prelude.{◌≡◌, ◌≤◌, ◌+◌, ⊤, ℕ, suc, Bool, true, false, if◌then◌else◌, ◌==◌, ◌&&◌, leb, nat_lt, not, cond, List, [], ◌∷◌, ◌++◌, Option, Some, None, map, refl}
+use Rattle.std.proofs.Common.{ap, ◌∙◌, arith}
 use Rattle.blake2_hash.specs.declared.digest.Hash32.{Hash32}
 use Rattle.layout_roles.specs.declared.layout.Layout.{Layout}
 use Rattle.view_model.specs.View.{View, newest, oldest, read_version, layout_at, merged, cleaned}
@@ -9,7 +9,8 @@ use Rattle.table_model.specs.Rows.{row_at}
 use Rattle.gc_model.specs.declared.collection.Collection.{Collection}
 use Rattle.gc_model.specs.declared.collection.GcEnd.{GcEnd}
 use Rattle.gc_model.specs.declared.collection.GcEnd.TheVariants.{Wait, Closed, Complete}
-use Rattle.gc_model.specs.Collecting.{Open, numbered as numbered_open, closed, answer_end, answered}
+use Rattle.gc_model.specs.Collecting.{Open, numbered as numbered_open, closed, changed, told, answer_end, answered}
+use Rattle.gc_model.specs.Rounds.{is_closed}
 use Rattle.quorum_model.specs.Quorum.{is_kept, with_confirmation}
 use Rattle.quorum_model.specs.Answers.{first_two_at}
 use Rattle.quorum_model.specs.Window.{Window}
@@ -38,33 +39,42 @@ beginning_by GoOn = 1
 beginning_by Mend = 1
 beginning_by _ = 0
 
+-- it doesn't collect
+abbrev pub IsNoGather : Action → Type 0
+IsNoGather Gather = ⊥
+IsNoGather _ = ⊤
+
 module _ {R : Type 0} (join : R → R → R) (s : Words R) where
   abbrev Machine : Type 0
   Machine = Node R Layout
 
-  read_rounds : (now : ℕ) (o : Option R) (given : Option (List ℕ)) (x : Machine) → (accepts_read join s now x o given).rounds ≡ x.rounds
+  -- how many rounds and repairs began, and how many collections
+  abbrev pub counts : Machine → ℕ × ℕ
+  counts x = (x.rounds, x.gc.begun)
+
+  read_rounds : (now : ℕ) (o : Option R) (given : Option (List ℕ)) (x : Machine) → counts (accepts_read join s now x o given) ≡ counts x
   read_rounds now None given x = refl
   read_rounds now (Some r) given x = refl
 
-  accepts_rounds : (now : ℕ) (rs : List (List ℕ × Option (List ℕ))) (x : Machine) → (accepts_all join s now x rs).rounds ≡ x.rounds
+  accepts_rounds : (now : ℕ) (rs : List (List ℕ × Option (List ℕ))) (x : Machine) → counts (accepts_all join s now x rs) ≡ counts x
   accepts_rounds now [] x = refl
   accepts_rounds now (r ∷ rs) x = accepts_rounds now rs (accepts_read join s now x (s.read r.0) r.1) ∙ read_rounds now (s.read r.0) r.1 x
 
   -- one of two nodes, or of two deeds
-  node_either : (n : ℕ) (b : Bool) (x y : Machine) → x.rounds ≡ n → y.rounds ≡ n → (cond b x y).rounds ≡ n
+  node_either : (n : ℕ × ℕ) (b : Bool) (x y : Machine) → counts x ≡ n → counts y ≡ n → counts (cond b x y) ≡ n
   node_either n true x y h g = h
   node_either n false x y h g = g
 
   module _ (id : ℕ) where
-    sees_rounds : (now : ℕ) (x : Machine) (v : View Layout) → (sees join s layouts id now x v).rounds ≡ x.rounds
-    sees_rounds now x v = node_either x.rounds (leb (oldest layouts.reading v) (oldest layouts.reading x.view)) _ _ refl refl
+    sees_rounds : (now : ℕ) (x : Machine) (v : View Layout) → counts (sees join s layouts id now x v) ≡ counts x
+    sees_rounds now x v = node_either (counts x) (leb (oldest layouts.reading v) (oldest layouts.reading x.view)) _ _ refl refl
 
-    goes_rounds : (x : Machine) (round : Round) → (goes_on join s layouts id x round).rounds ≡ x.rounds
-    goes_rounds x round = node_either x.rounds (is_complete round) _ _ refl refl
+    goes_rounds : (x : Machine) (round : Round) → counts (goes_on join s layouts id x round) ≡ counts x
+    goes_rounds x round = node_either (counts x) (is_complete round) _ _ refl refl
 
     module _ (x : Machine) where
       abbrev Same : Did R Layout → Type 0
-      Same d = d.node.rounds ≡ x.rounds
+      Same d = counts d.node ≡ counts x
 
       either : (b : Bool) (d e : Did R Layout) → Same d → Same e → Same (cond b d e)
       either true d e h g = h
@@ -126,9 +136,9 @@ module _ {R : Type 0} (join : R → R → R) (s : Words R) where
       round_same table prefix answer round w =
           let later = walk_after join s x w table prefix answer in
           let now : Round = record round { walks = walks_after later round.walks } in
-          node_either x.rounds (found_same later) _ _ (goes_rounds x (record now { confirmed = now.confirmed ++ record { partition = w.state.partition; node = w.node } ∷ [] })) refl
+          node_either (counts x) (found_same later) _ _ (goes_rounds x (record now { confirmed = now.confirmed ++ record { partition = w.state.partition; node = w.node } ∷ [] })) refl
 
-      mending_same : (now : Mending → Machine) (other : Did R Layout) → ((m : Mending) → (now m).rounds ≡ x.rounds) → Same other → (from number p table : ℕ) (prefix : List ℕ) (answer : Option (List (ℕ × Hash32))) (o : Option Mending) → Same (mending_came join s layouts x now other from number p table prefix answer o)
+      mending_same : (now : Mending → Machine) (other : Did R Layout) → ((m : Mending) → counts (now m) ≡ counts x) → Same other → (from number p table : ℕ) (prefix : List ℕ) (answer : Option (List (ℕ × Hash32))) (o : Option Mending) → Same (mending_came join s layouts x now other from number p table prefix answer o)
       mending_same now other h g from number p table prefix answer None = g
       mending_same now other h g from number p table prefix answer (Some mending) =
           either (mending.number == number) _ other (at_walk_same table prefix (mending_walks join s layouts x now table prefix answer mending) (walk_at p from mending.walks) (λ w. h _)) g
@@ -177,24 +187,28 @@ module _ {R : Type 0} (join : R → R → R) (s : Words R) where
       forgotten_same table key test None = refl
       forgotten_same table key test (Some r) = either (test r) _ (quiet x) refl refl
 
-      dropped_same : (o : Open) (c : Collection) (row : Option R) → Same (drops_row join s id (record x { gc = o }) c row)
-      dropped_same o c None = refl
-      dropped_same o c (Some r) = refl
+      dropped_same : (o : Open) (c : Collection) (row : Option R) → o.begun ≡ x.gc.begun → Same (drops_row join s id (record x { gc = o }) c row)
+      dropped_same o c None e = ap (λ (n : ℕ). (x.rounds, n)) e
+      dropped_same o c (Some r) e = ap (λ (n : ℕ). (x.rounds, n)) e
 
       finished_same : (o : Option Collection) → Same (finishes join s layouts id x o)
       finished_same None = refl
       finished_same (Some c) =
           let row = row_at join s x.accepted 1 c.key in
-          either ((newest layouts.reading x.view == c.newest) && has_bytes join s c.row row) _ _ (dropped_same (closed c.number x.gc) c row) refl
+          either ((newest layouts.reading x.view == c.newest) && has_bytes join s c.row row) _ _ (dropped_same (closed c.number x.gc) c row refl) refl
 
-      tombed_same : (number round : ℕ) (o : Open) (e : GcEnd) → Same (answered_to join s layouts id x number round o e)
-      tombed_same number round o Wait = refl
-      tombed_same number round o Closed = refl
-      tombed_same number round o Complete = either (round == 2) _ _ (finished_same (numbered_open number x.gc)) refl
+      tombed_same : (number round : ℕ) (o : Open) (e : GcEnd) → o.begun ≡ x.gc.begun → Same (answered_to join s layouts id x number round o e)
+      tombed_same number round o Wait e = ap (λ (n : ℕ). (x.rounds, n)) e
+      tombed_same number round o Closed e = ap (λ (n : ℕ). (x.rounds, n)) e
+      tombed_same number round o Complete e = either (round == 2) _ _ (finished_same (numbered_open number x.gc)) (ap (λ (n : ℕ). (x.rounds, n)) e)
 
-      merged_same : (now : ℕ) (o : Option R) → (merges join s layouts id now x o).rounds ≡ x.rounds
+      -- an answer begins none
+      answered_same : (number round from named now : ℕ) → (answered number round from named now x.gc).begun ≡ x.gc.begun
+      answered_same number round from named now = elim (is_closed (answer_end number round from named x.gc)) as (λ b. (if b then closed number x.gc else changed (told round from named now) number x.gc).begun ≡ x.gc.begun) [ true ↦ refl | false ↦ refl ]
+
+      merged_same : (now : ℕ) (o : Option R) → counts (merges join s layouts id now x o) ≡ counts x
       merged_same now None = refl
-      merged_same now (Some r) = node_either x.rounds (is_given layouts x.view id (partition_of s r)) _ _ refl refl
+      merged_same now (Some r) = node_either (counts x) (is_given layouts x.view id (partition_of s r)) _ _ refl refl
 
       hears_same : (now from : ℕ) (m : Message R) → Same (hears join s layouts id now x from m)
       hears_same now from (Get request phase at table key) = here from request phase at _ refl
@@ -212,43 +226,62 @@ module _ {R : Type 0} (join : R → R → R) (s : Words R) where
       hears_same now from (HasSame tag table prefix) = walks_same from tag table prefix None
       hears_same now from (Differ tag table prefix pairs) = walks_same from tag table prefix (Some pairs)
       hears_same now from (Tomb number round row) = merged_same now (s.read row)
-      hears_same now from (Tombed number round named) = tombed_same number round (answered number round from named now x.gc) (answer_end number round from named x.gc)
+      hears_same now from (Tombed number round named) = tombed_same number round (answered number round from named now x.gc) (answer_end number round from named x.gc) (answered_same number round from named now)
       hears_same now from (Forget table key hash) = forgotten_same table key (has_digest join s hash.0) (row_at join s x.accepted table key)
 
       -- a packet begins none
-      pub receives_same : (now from : ℕ) (p : Packet R Layout) → (receives join s layouts id now x from p).node.rounds ≡ x.rounds
+      pub receives_same : (now from : ℕ) (p : Packet R Layout) → counts (receives join s layouts id now x from p).node ≡ counts x
       receives_same now from (says m) = hears_same now from m
       receives_same now from (shows v) = sees_rounds now x (merged layouts.reading x.view v)
 
       -- ---- what a node does by itself
 
-      syncs_more : (o : Option Round) → (syncs join s layouts id x o).did.node.rounds ≤ x.rounds + 1
-      syncs_more (Some round) = let e = goes_rounds x (walked_anew join s layouts x round) in omega (arith, e)
+      -- so many rounds more at most, and no collection
+      abbrev pub Begins : ℕ → Machine → Type 0
+      Begins k y = (y.rounds ≤ x.rounds + k) × (y.gc.begun ≡ x.gc.begun)
+
+      same_begins : (k : ℕ) (y : Machine) → counts y ≡ counts x → Begins k y
+      same_begins k y e = let rounds = ap (λ (c : ℕ × ℕ). c.0) e in (omega (arith, rounds), ap (λ (c : ℕ × ℕ). c.1) e)
+
+      syncs_more : (o : Option Round) → Begins 1 (syncs join s layouts id x o).did.node
+      syncs_more (Some round) = same_begins 1 (syncs join s layouts id x (Some round)).did.node (goes_rounds x (walked_anew join s layouts x round))
       syncs_more None = by_test (may_sync join s layouts id x.view) _ _
         where
-          begun : (begin_round join s layouts id x).node.rounds ≡ suc x.rounds
+          begun : Begins 1 (begin_round join s layouts id x).node
           begun =
               let at = read_version layouts.reading x.view in
               let parts = parts_of join s layouts id x (layout_at layouts.reading x.view at) (layout_at layouts.reading x.view (suc at)) in
-              goes_rounds (record x { rounds = suc x.rounds; lasting = None })
-              (record { number = suc x.rounds; target = suc at; parts = parts; confirmed = map (λ (part : Part). record { partition = part.partition; node = id }) parts; walks = walks_of join s x (other_nodes join s layouts id) parts })
+              let e = goes_rounds (record x { rounds = suc x.rounds; lasting = None })
+              (record { number = suc x.rounds; target = suc at; parts = parts; confirmed = map (λ (part : Part). record { partition = part.partition; node = id }) parts; walks = walks_of join s x (other_nodes join s layouts id) parts }) in
+              let rounds = ap (λ (c : ℕ × ℕ). c.0) e in
+              (omega (arith, rounds), ap (λ (c : ℕ × ℕ). c.1) e)
 
-          by_test : (b : Bool) (how other : LocalEnd) → (cond {A = Acted R Layout} b (record { did = begin_round join s layouts id x; how = how }) (record { did = quiet x; how = other })).did.node.rounds ≤ x.rounds + 1
-          by_test true how other = omega (arith, begun)
-          by_test false how other = omega arith
+          by_test : (b : Bool) (how other : LocalEnd) → Begins 1 (cond {A = Acted R Layout} b (record { did = begin_round join s layouts id x; how = how }) (record { did = quiet x; how = other })).did.node
+          by_test true how other = begun
+          by_test false how other = (omega arith, refl)
 
-      -- an action begins one at most
+      -- an action begins one round at most
       pub acts_more : (now : ℕ) (action : Action) → (acts join s layouts id now x action).did.node.rounds ≤ x.rounds + beginning_by action
       acts_more now RaiseAck = omega arith
-      acts_more now GoOn = syncs_more x.round
+      acts_more now GoOn = (syncs_more x.round).0
       acts_more now RaiseSyncAck = omega arith
-      acts_more now CleanUp = let e = sees_rounds now x (cleaned layouts.reading x.view) in omega (arith, e)
+      acts_more now CleanUp = let e = ap (λ (c : ℕ × ℕ). c.0) (sees_rounds now x (cleaned layouts.reading x.view)) in omega (arith, e)
       acts_more now WorkOff = omega arith
       acts_more now Mend = omega arith
       acts_more now Gather = omega arith
 
+      -- and no collection, unless it collects
+      pub acts_begun : (now : ℕ) (action : Action) → IsNoGather action → (acts join s layouts id now x action).did.node.gc.begun ≡ x.gc.begun
+      acts_begun now RaiseAck other = refl
+      acts_begun now GoOn other = (syncs_more x.round).1
+      acts_begun now RaiseSyncAck other = refl
+      acts_begun now CleanUp other = ap (λ (c : ℕ × ℕ). c.1) (sees_rounds now x (cleaned layouts.reading x.view))
+      acts_begun now WorkOff other = refl
+      acts_begun now Mend other = refl
+      acts_begun now Gather other = absurd other
+
   -- a phase that begins begins none
-  pub begins_same : (kept : List R) (x : Machine) (c : Call R) (phase : Phase R) → (begins s layouts kept x c phase).node.rounds ≡ x.rounds
+  pub begins_same : (kept : List R) (x : Machine) (c : Call R) (phase : Phase R) → counts (begins s layouts kept x c phase).node ≡ counts x
   begins_same kept x c (Read table position key) = refl
   begins_same kept x c (Scans position prefix after) = refl
   begins_same kept x c (Keeps rs) = refl

@@ -1,7 +1,10 @@
 -- What a server within its limits draws: no timestamp past the greatest time of a request and one for each request.
-use Rattle.std.specs.Prelude.{◌≡◌, ◌≤◌, ◌+◌, ℕ, ⊤, List, [], ◌∷◌, ◌++◌, Some, length, refl}
+use Rattle.std.specs.Prelude.{◌≡◌, ◌^◌, true, ◌≤◌, ◌+◌, ℕ, ⊤, List, [], ◌∷◌, ◌++◌, Some, length, refl}
 use Rattle.std.specs.List.{AllByRecursion, Contains}
 use Rattle.std.proofs.Common.{sym, subst, append_assoc, arith}
+use Rattle.std.proofs.lemmas.Bool.{lt-ltb}
+use Rattle.crdt_core.specs.EntryLaws.{and_both}
+use Rattle.row_codec.specs.Range.{is_eight, version_in_range}
 use Rattle.crdt_core.proofs.Each.{all_weaker}
 use Rattle.crdt_rows.specs.declared.version.Version.{Version}
 use Rattle.crdt_rows.specs.AnyRow.{any_join}
@@ -9,6 +12,7 @@ use Rattle.object_schema.specs.Schema.{words}
 use Rattle.cluster_machine.specs.declared.step.Step.TheVariants.{Deliver}
 use Rattle.cluster_machine.specs.World.{numbered}
 use Rattle.cluster_machine.specs.Worlds.{FitAll, FitsAfter}
+use Rattle.machine_origins.proofs.Places.{numbered_within}
 use Rattle.store_model.specs.Run.{Asked, Draw, State, start, plainly, delivers}
 use Rattle.store_model.specs.Acts.{Act, delivery, drain, acted, after_acts, AreLawfulActs, ActsFit}
 use Rattle.store_model.specs.Moments.{IsMoment, between, within}
@@ -28,6 +32,7 @@ use Rattle.serve_limits.specs.Counts.{IsEvenAct, passes_in, opens_in, rounds_in,
 use Rattle.serve_limits.specs.Stamps.{IsLedTo, stamp_limit, DrewBy, AreStampedBy}
 use Rattle.serve_limits.proofs.Acts.{act_goes, acts_within, even_parts}
 use Rattle.serve_limits.proofs.Jobs.{Costs, IsFree, none_cost, sum_parts, costs_both, costs_wider, free_first, through_costs, parts_few}
+use Rattle.serve_limits.proofs.Begun.{never_parts}
 use Rattle.serve_limits.proofs.Drawing.{IsNear, Asks, delivers_draws, act_draws}
 
 -- all that a run does
@@ -98,11 +103,11 @@ module _ (every : EveryWorld Any) where
         let a = h.passes in
         let b = h.opens in
         let r = h.rounds in
-        record { passes = omega (arith, x, a); opens = omega (arith, y, b); rounds = omega (arith, z, r); even = (even_parts before after h.even).0 }
+        record { passes = omega (arith, x, a); opens = omega (arith, y, b); rounds = omega (arith, z, r); even = (even_parts before after h.even).0; never = (never_parts before after h.never).0 }
 
     last_within : (before : List Act) (n k : ℕ) (after : List Act) → Within (before ++ drain n ∷ after) → Within (before ++ drain k ∷ [])
     last_within before n k after h = costs_wider (time_limit + 0) (1000000 + 0) (3168 + 0) time_limit 1000000 3168 (before ++ drain k ∷ []) (omega arith) (omega arith) (omega arith)
-        (costs_both time_limit 1000000 3168 0 0 0 before (drain k ∷ []) (part_within before (drain n ∷ after) h) (free_first (drain k) [] (refl, refl, refl, tt) none_cost))
+        (costs_both time_limit 1000000 3168 0 0 0 before (drain k ∷ []) (part_within before (drain n ∷ after) h) (free_first (drain k) [] (refl, refl, refl, tt, tt) none_cost))
 
     moment_within : (moment : List Act) → IsMoment (acts_through c jobs) moment → Within moment
     moment_within moment (between before after is) = part_within before after (subst Within is all_within)
@@ -128,6 +133,21 @@ module _ (every : EveryWorld Any) where
 
     pub all_drawn : (moment : List Act) → IsMoment (acts_through c jobs) moment → AreLawfulActs begin moment → ActsFit begin moment → DrewBy stamp_limit (after_acts begin moment)
     all_drawn moment is lawful fit d there = let x = stands moment (moment_within moment is) lawful fit in let one = x.near.low d there in let low = x.low in omega (arith, one, low)
+
+    -- each version that was drawn is in range: it has the number of its request
+    pub all_in_range : (moment : List Act) → IsMoment (acts_through c jobs) moment → AreLawfulActs begin moment → ActsFit begin moment → (d : Draw) → Contains (after_acts begin moment).draws d → version_in_range d.version ≡ true
+    all_in_range moment is lawful fit d there =
+        let s = after_acts begin moment in
+        let h = moment_within moment is in
+        let x = stands moment h lawful fit in
+        let drew = x.sound.drawn d there in
+        let asked_so = x.sound.told.began_asked d.request drew.node drew.kind d.name (is_in s.history drew.place _ drew.began_at) in
+        let number = numbered_within s.asked d.request asked_so.one asked_so.is_there in
+        let id = drew.id_is in
+        let few = x.few in
+        let opens = h.opens in
+        let early = all_drawn moment is lawful fit d there in
+        and_both (is_eight d.version.ts) (is_eight d.version.id) (lt-ltb d.version.ts (2 ^ 64) (omega (arith, early))) (lt-ltb d.version.id (2 ^ 64) (omega (arith, id, number, few, opens)))
 
     -- what comes of an act
     drawn_in : (moment : List Act) (act : Act) → Within (moment ++ act ∷ []) → (let s = after_acts begin moment in length s.asked ≤ sum_in opens_in moment → Asks (opens_in act) s (acted s act) → AreStampedBy stamp_limit (acted s act).new_versions)
@@ -157,7 +177,7 @@ module _ (every : EveryWorld Any) where
         let h = moment_within moment is in
         let x = stands moment h lawful fit in
         let d = delivers_draws every s m ((fits.0, fits.1, λ d h. tt), tt) x.sound x.near in
-        drawn_in moment (delivery m) (free_within moment (delivery m) h (refl, refl, refl, tt)) x.few d
+        drawn_in moment (delivery m) (free_within moment (delivery m) h (refl, refl, refl, tt, tt)) x.few d
 
     pub act_drawn : (before : List Act) (act : Act) (later : List Act) → acts_through c jobs ≡ before ++ act ∷ later → AreLawfulActs begin before → ActsFit begin before →
         (let s = after_acts begin before in FitAll any_join words s.world (acted s act).moves → AreStampedBy stamp_limit (acted s act).new_versions)

@@ -84,7 +84,7 @@ module _ {R : Type 0} (join : R → R → R) (s : Words R) (w : Model R) where
 
     delivered_adds : (i : ℕ) (x : Sent R Layout) → Added (received i (did {A = Applied} {C = Cut} w x.to (receives join s layouts x.to (clock w x.to) (w.nodes x.to) x.from x.packet)))
     delivered_adds i x =
-        let same = receives_same join s x.to (w.nodes x.to) (clock w x.to) x.from x.packet in
+        let same = ap (λ (c : ℕ × ℕ). c.0) (receives_same join s x.to (w.nodes x.to) (clock w x.to) x.from x.packet) in
         let d = did_adds x.to (receives join s layouts x.to (clock w x.to) (w.nodes x.to) x.from x.packet) (omega (arith, same)) in
         record { passes = d.passes; skews = d.skews; opens = d.opens; rounds = d.rounds }
 
@@ -121,7 +121,7 @@ module _ {R : Type 0} (join : R → R → R) (s : Words R) (w : Model R) where
 
     begun_adds : (n : ℕ) (phase : Phase R) (o : Option (Call R)) → Added (begun {A = Applied} {C = Cut} join s layouts trio stage_trio w n phase o)
     begun_adds n phase None = nothing_adds
-    begun_adds n phase (Some c) = let same = begins_same join s w.kept (w.nodes n) c phase in did_adds n (begins s layouts w.kept (w.nodes n) c phase) (omega (arith, same))
+    begun_adds n phase (Some c) = let same = ap (λ (k : ℕ × ℕ). k.0) (begins_same join s w.kept (w.nodes n) c phase) in did_adds n (begins s layouts w.kept (w.nodes n) c phase) (omega (arith, same))
 
     beginning_adds : (q : ℕ) (phase : Phase R) (o : Option Request) → Added (beginning {A = Applied} {C = Cut} join s layouts trio stage_trio w q phase o)
     beginning_adds q phase None = nothing_adds

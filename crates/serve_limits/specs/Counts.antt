@@ -87,3 +87,16 @@ AllCountsFit w [] = ⊤
 AllCountsFit w (m ∷ ms) =
     let then = next any_join words w m in
     CountsFit then × AllCountsFit then ms
+
+-- ---- collections
+
+-- each node began so many collections at most
+abbrev pub HaveBegun : ℕ → World → Type 0
+HaveBegun k w = (n : ℕ) → (w.nodes n).gc.begun ≤ k
+
+-- so it is after each of these steps
+abbrev pub AllHaveBegun : ℕ → World → List Moving → Type 0
+AllHaveBegun k w [] = ⊤
+AllHaveBegun k w (m ∷ ms) =
+    let then = next any_join words w m in
+    HaveBegun k then × AllHaveBegun k then ms
