@@ -1,3 +1,4 @@
+mod Equal
 mod Firsts
 pub mod ObjectFacts
 mod Older

@@ -66,6 +66,10 @@ impl Crdt for AnyRow {
     }
 
     fn merge(&mut self, other: &AnyRow) -> Result<(), Memory> {
+        // Nodes mostly have the same row. A merge would copy one that is shared before it compares the two.
+        if *self == *other {
+            return Ok(());
+        }
         if self.table() < other.table() {
             *self = other.copy()?;
             return Ok(());
