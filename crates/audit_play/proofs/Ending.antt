@@ -17,7 +17,7 @@ use Rattle.audit_model.specs.Printed.{all_prints}
 use Rattle.audit_model.specs.Audit.{ArePrinted, DifferFirst, Finds, differs, too_much, ok, other_text, other_before, past_limit, all_well}
 use Rattle.audit_runs.proofs.Prints.{prints_meant}
 use Rattle.s3_world.specs.declared.world.S3World.{S3World}
-use Rattle.s3_world.specs.Stands.{IsStore, HasStore, IsMeantEvent}
+use Rattle.s3_world.specs.Stands.{IsRecorded, HasRecorded, IsMeantEvent}
 use Rattle.replay_run.specs.declared.account.Account.TheVariants.{Transcript}
 use Rattle.replay_run.specs.declared.stop.ReplayStop.TheVariants.{Number}
 use Rattle.replay_run.specs.Account.{IsTail}
@@ -38,7 +38,7 @@ use Rattle.audit_play.proofs.Following.{HaveReplays, NeverLacks, SoFar, so_far_n
 abbrev pub Following : List Numbered → List ℕ → List Sheet → S3World → ℕ → ℕ → Type 0
 Following events text sheets store place i = (saids : List Said) (h : List Record) → AreCompared events text saids h sheets → SoFar (all_prints events saids) events text store place i
 
-pub following_none : (events : List Numbered) (text : List ℕ) (sheets : List Sheet) (store : S3World) → IsStore store start → Following events text sheets store 0 0
+pub following_none : (events : List Numbered) (text : List ℕ) (sheets : List Sheet) (store : S3World) → IsRecorded store start → Following events text sheets store 0 0
 following_none events text sheets store d saids h k = so_far_none (all_prints events saids) events text store d
 
 -- where a call may lack room, and doesn't, it gives up for want of memory alone
@@ -58,7 +58,7 @@ module _ (events : List Numbered) (text : List ℕ) (sheets : List Sheet) (known
     r : SoFar (all_prints events known.0) events text store place i
     r = f known.0 known.1.0 known.1.1
 
-    pub has_store : HasStore store
+    pub has_store : HasRecorded store
     has_store = (run start r.turns, r.stands)
 
     pub is_within : place ≤ length text

@@ -16,7 +16,8 @@ use Rattle.audit_model.specs.Audit.{staged_in, IsGiven, AreGiven, AreFirstPrinte
 use Rattle.audit_runs.specs.Alike.{DifferInCuts}
 use Rattle.audit_runs.proofs.Cuts.{same_end, same_events}
 use Rattle.s3_world.specs.declared.world.S3World.{S3World}
-use Rattle.s3_world.specs.Stands.{IsStore}
+use Rattle.s3_world.specs.Stands.{IsRecorded}
+use Rattle.s3_world.proofs.Storing.{as_store}
 use Rattle.replay_run.specs.declared.stop.ReplayStop.TheVariants.{Number}
 use Rattle.replay_run.specs.Replay.{LacksRoom, StopsAt, IsUnshown, ReplayLacksRoom, in_step, in_line}
 use Rattle.replay_run.specs.Turning.{turn, EventStops, CannotTell}
@@ -48,11 +49,11 @@ pub record SoFar (ps : List Print) (events : List Numbered) (text : List ℕ) (s
   pub events_are : events_of turns ≡ take i events
   pub given : AreGiven ps start turns
   pub go_on : AllGoOn start turns
-  pub stands : IsStore store (run start turns)
+  pub stands : IsRecorded store (run start turns)
   pub place_is : place ≡ length (turns_text start turns)
   pub text_is : text ≡ turns_text start turns ++ drop place text
 
-pub so_far_none : (ps : List Print) (events : List Numbered) (text : List ℕ) (store : S3World) → IsStore store start → SoFar ps events text store 0 0
+pub so_far_none : (ps : List Print) (events : List Numbered) (text : List ℕ) (store : S3World) → IsRecorded store start → SoFar ps events text store 0 0
 so_far_none ps events text store d = record { turns = []; events_are = refl; given = tt; go_on = tt; stands = d; place_is = refl; text_is = refl }
 
 given_push : (ps : List Print) (s : State) (ts : List Turn) (t : Turn) → AreGiven ps s ts → IsGiven (run s ts) t (print_at ps t.numbered.line) → AreGiven ps s (ts ++ t ∷ [])
@@ -109,7 +110,7 @@ module _ (replays : HaveReplays) (never : NeverLacks) (events : List Numbered) (
   can_tell le none =
       never events scheduled
       (in_line beside.0 (sym (same_events r.turns beside.0 beside.1.0) ∙ all_are (all_prints events saids) events text store place i r le) beside.1.1
-      (subst (λ (s : State). IsUnshown s) same_state (none (run start r.turns) r.stands)))
+      (subst (λ (s : State). IsUnshown s) same_state (none (run start r.turns) (as_store store (run start r.turns) r.stands))))
 
 -- ---- one event more
 
@@ -154,9 +155,9 @@ module _ (shows : AreOfPrints) (ps : List Print) (sheets : List Sheet) (sheets_a
     unfolding more t here
     more_go_on = go_on_push start r.turns t r.go_on (subst (AllByRecursion GoesOn) as_print.same_steps to.go_on)
 
-    more_stands : IsStore new (run start more)
+    more_stands : IsRecorded new (run start more)
     unfolding more here
-    more_stands = subst (IsStore new) (ap (λ o. o.state) same_outcome ∙ sym (run_push start r.turns t)) to.stands
+    more_stands = subst (IsRecorded new) (ap (λ o. o.state) same_outcome ∙ sym (run_push start r.turns t)) to.stands
 
     more_text : turns_text start more ≡ T ++ told
     unfolding more T t here

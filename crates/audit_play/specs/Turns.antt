@@ -12,7 +12,7 @@ use Rattle.store_model.specs.Events.{act_of, outcome_of}
 use Rattle.text_model.specs.Transcript.{event_text}
 use Rattle.text_model.specs.Played.{steps_of, GoesOn}
 use Rattle.s3_world.specs.declared.world.S3World.{S3World}
-use Rattle.s3_world.specs.Stands.{IsStore}
+use Rattle.s3_world.specs.Stands.{IsRecorded}
 use Rattle.replay_run.specs.Replay.{SendsTooMuch, StopsAt}
 use Rattle.replay_run.specs.Turning.{turn}
 use Rattle.audit_model.specs.Audit.{staged_in}
@@ -24,7 +24,7 @@ module _ (IsIt : State → Decision → Type 0) where
   pub record TurnsTo (new : S3World) (s : State) (e : Numbered) (text : List ℕ) : Type 0 where
     pub choice : Decision
     pub is_it : IsIt s choice
-    pub stands : IsStore new (outcome_of s (turn e choice)).state
+    pub stands : IsRecorded new (outcome_of s (turn e choice)).state
     pub go_on : AllByRecursion GoesOn (steps_of s e.event choice)
     pub text_is : text ≡ event_text e (outcome_of s (turn e choice))
 
@@ -36,8 +36,8 @@ module _ (IsIt : State → Decision → Type 0) where
 
   -- whatever state the store stood for, it did the event and this is its text; or more was sent than may be
   abbrev pub Turns : S3World → S3World → Numbered → Option (List ℕ) → Type 0
-  Turns old new e (Some text) = ties.Steps IsStore old (λ s. TurnsTo new s e text)
-  Turns old new e None = ties.Steps IsStore old (λ s. SendsInto s e)
+  Turns old new e (Some text) = ties.Steps IsRecorded old (λ s. TurnsTo new s e text)
+  Turns old new e None = ties.Steps IsRecorded old (λ s. SendsInto s e)
 
 -- an apply at this node is given this layout
 abbrev pub TurnsGiven : ℕ → Applied → S3World → S3World → Numbered → Option (List ℕ) → Type 0

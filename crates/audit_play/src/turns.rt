@@ -4,7 +4,7 @@ ghost use Rattle.std.specs.List.{AllByRecursion};
 ghost use Rattle.crdt_core.specs.Outcomes.{OnlyWant};
 ghost use Rattle.layout_roles.specs.Fits.{IsGreatest};
 ghost use Rattle.store_model.specs.declared.event.Event.TheVariants as event;
-ghost use Rattle.s3_world.specs.Stands.{HasStore, IsMeantEvent};
+ghost use Rattle.s3_world.specs.Stands.{HasRecorded, IsMeantEvent};
 ghost use Rattle.replay_run.specs.Turning.{EventStops};
 ghost use Rattle.replay_run.specs.declared.stop.ReplayStop.TheVariants.{Number};
 ghost use Rattle.audit_play.specs.Sheets.{IsGreatestSheet};
@@ -28,7 +28,7 @@ fn applied(
     node: u8,
     shown: Applied,
 ) -> Result<Option<Bytes>, Memory>
-    requires stands { HasStore store.old }
+    requires stands { HasRecorded store.old }
     requires greatest { IsGreatest shown.roles.list shown.certified.r shown.certified.size shown.certified.sets.sets }
     ensures turns { IfOk result (TurnsGiven node shown store.old store.new (record { line = line; event = event.Apply node })) }
     ensures want { OnlyWant result }
@@ -50,7 +50,7 @@ fn applied(
 
 /// Takes an event as a replay does, and gives what is told; None where more was sent than may be.
 fn played(alloc: Global, store: &mut S3World, next: &Numbered) -> Result<Option<Bytes>, Memory>
-    requires stands { HasStore store.old }
+    requires stands { HasRecorded store.old }
     requires meant { IsMeantEvent next.now.event }
     requires room { EventStops store.old next.now.event Number → ⊥ }
     ensures turns { IfOk result (TurnsLawfully store.old store.new next.now) }
@@ -73,7 +73,7 @@ pub(crate) fn turned(
     sheets: &[Sheet],
     next: &Numbered,
 ) -> Result<Option<Bytes>, Memory>
-    requires stands { HasStore store.old }
+    requires stands { HasRecorded store.old }
     requires meant { IsMeantEvent next.now.event }
     requires greatest { AllByRecursion IsGreatestSheet sheets.now }
     requires room { EventStops store.old next.now.event Number → ⊥ }

@@ -4,6 +4,7 @@ use Rattle.store_model.specs.Run.{State}
 use Rattle.text_model.specs.Transcript.{nodes_text, end_line}
 use Rattle.s3_world.specs.declared.world.S3World.{S3World}
 use Rattle.s3_world.specs.Stands.{IsStore}
+use Rattle.s3_world.proofs.Storing.{as_store}
 use Rattle.replay_run.specs.declared.account.Account.{Account}
 use Rattle.replay_run.specs.Account.{opening}
 use Rattle.replay_run.specs.Turning.{TellsLine, TellsOpening, TellsTail}
@@ -19,6 +20,6 @@ module _ (account : Account) (store : S3World) (events : ℕ) (first lines check
     line = check;
     is_line = line s d;
     text_is =
-        joined first lines check last ∙ ap (λ a. a ++ (lines ++ (check ++ last))) (opens s d) ∙ ap (λ b. opening account s ++ (b ++ (check ++ last))) (nodes s d)
-        ∙ ap (λ e. opening account s ++ (nodes_text s.world ++ (check ++ e))) (ends s d);
+        joined first lines check last ∙ ap (λ a. a ++ (lines ++ (check ++ last))) (opens s d) ∙ ap (λ b. opening account s ++ (b ++ (check ++ last))) (nodes s (as_store store s d))
+        ∙ ap (λ e. opening account s ++ (nodes_text s.world ++ (check ++ e))) (ends s (as_store store s d));
   }

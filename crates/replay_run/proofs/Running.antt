@@ -12,7 +12,8 @@ use Rattle.store_model.specs.Events.{Turn, outcome_of, events_of, run}
 use Rattle.text_model.specs.Grammar.{name_of}
 use Rattle.text_model.specs.Transcript.{told_text}
 use Rattle.s3_world.specs.declared.world.S3World.{S3World}
-use Rattle.s3_world.specs.Stands.{IsStore, HasStore}
+use Rattle.s3_world.specs.Stands.{IsRecorded, HasRecorded}
+use Rattle.s3_world.proofs.Storing.{as_store}
 use Rattle.replay_run.specs.declared.account.Account.{Account}
 use Rattle.replay_run.specs.declared.stop.ReplayStop.{ReplayStop}
 use Rattle.replay_run.specs.declared.stop.ReplayStop.TheVariants.{Write, Memory, Number, Sent}
@@ -25,7 +26,7 @@ use Rattle.replay_run.proofs.Causes.{stop_is}
 use Rattle.replay_run.proofs.Turns.{run_push, front_none, front_push, events_push, played_none, played_push}
 
 -- what the store took is a turn, with what is written of what it told
-pub turns_one : (account : Account) (old new : S3World) (told : Told) (e : Numbered) (text : List ℕ) → ((s : State) → IsStore old s → Takes new told s e.event) →
+pub turns_one : (account : Account) (old new : S3World) (told : Told) (e : Numbered) (text : List ℕ) → ((s : State) → IsRecorded old s → Takes new told s e.event) →
     text ≡ shown account (told_text e.line (name_of e.event) told.refused told.words told.lines) → TurnsOne account old new e text
 turns_one account old new told e text takes is s stands =
     let d = takes s stands in
@@ -46,20 +47,20 @@ pub record Running (account : Account) (store : S3World) (old now : Option (List
   pub turns : List Turn
   pub events_are : events_of turns ≡ take i events
   pub played : ArePlayed turns
-  pub stands : IsStore store (run start turns)
+  pub stands : IsRecorded store (run start turns)
   pub wrote : Wrote old now (front account turns)
 
 none_wrote : (account : Account) (old : Option (List ℕ)) → Wrote old old (front account [])
 none_wrote account old = subst (Wrote old old) (sym (front_none account)) (wrote_none old)
 
-pub running_none : (account : Account) (store : S3World) (old : Option (List ℕ)) (events : List Numbered) → IsStore store start → Running account store old old events 0
+pub running_none : (account : Account) (store : S3World) (old : Option (List ℕ)) (events : List Numbered) → IsRecorded store start → Running account store old old events 0
 running_none account store old events d = record { turns = []; events_are = refl; played = played_none; stands = d; wrote = none_wrote account old }
 
 pub part_none : (account : Account) (old : Option (List ℕ)) (events : List Numbered) → IsPart account events old old
 part_none account old events = of_turns [] (record { played = played_none; later = events; whole = refl }) (wrote_prefix_whole old old (front account []) (none_wrote account old))
 
 module _ (account : Account) (store : S3World) (old now : Option (List ℕ)) (events : List Numbered) (i : ℕ) (r : Running account store old now events i) where
-  pub running_has : HasStore store
+  pub running_has : HasRecorded store
   running_has = (run start r.turns, r.stands)
 
   are_first : AreFirst events r.turns
@@ -92,9 +93,9 @@ module _ (account : Account) (store new : S3World) (old mid now : Option (List �
     unfolding more
     more_text = front_push account r.turns (turn next to.choice) ∙ ap (λ t. front account r.turns ++ t) (sym to.text_is)
 
-    more_stands : IsStore new (run start more)
+    more_stands : IsRecorded new (run start more)
     unfolding more
-    more_stands = subst (IsStore new) (sym (run_push start r.turns (turn next to.choice))) to.stands
+    more_stands = subst (IsRecorded new) (sym (run_push start r.turns (turn next to.choice))) to.stands
 
     pub running_more : Wrote mid now text → Running account new old now events (i + 1)
     running_more wrote = record {
@@ -112,7 +113,7 @@ module _ (account : Account) (store new : S3World) (old mid now : Option (List �
         (subst (WrotePrefix old now) (sym more_text) (wrote_prefix_after old mid now (front account r.turns) text r.wrote wrote))
 
   -- the event has a step after which the replay doesn't go on
-  stops_after : (IsSo : Step → Type 0) → ((s : State) → IsStore store s → StopsIn IsSo s next.event) → StopsAfter IsSo events r.turns
+  stops_after : (IsSo : Step → Type 0) → ((s : State) → IsRecorded store s → StopsIn IsSo s next.event) → StopsAfter IsSo events r.turns
   stops_after IsSo so =
       let h = so (run start r.turns) r.stands in
       record {
@@ -142,7 +143,7 @@ module _ (account : Account) (store : S3World) (old mid now : Option (List ℕ))
 
   -- after the last event a node can't be shown
   unshown_here : CannotTell store → Halts account events Number old mid
-  unshown_here none = (running_part account store old mid events i r, in_line r.turns all_are r.played (none (run start r.turns) r.stands))
+  unshown_here none = (running_part account store old mid events i r, in_line r.turns all_are r.played (none (run start r.turns) (as_store store (run start r.turns) r.stands)))
 
   -- what follows the last event came to nothing
   pub all_halts : (why : Why) → (why ≡ Want) ⊎ ((why ≡ Full) × CannotTell store) → Halts account events (stop_of_memory why) old mid

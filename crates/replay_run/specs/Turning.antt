@@ -15,7 +15,7 @@ use Rattle.store_model.specs.Events.{Turn, act_of, outcome, outcome_of}
 use Rattle.store_model.specs.Turns.{IsLawful}
 use Rattle.text_model.specs.Transcript.{event_text}
 use Rattle.s3_world.specs.declared.world.S3World.{S3World}
-use Rattle.s3_world.specs.Stands.{IsStore, Tells}
+use Rattle.s3_world.specs.Stands.{IsStore, IsRecorded, Tells}
 use Rattle.replay_run.specs.declared.account.Account.{Account}
 use Rattle.replay_run.specs.declared.stop.ReplayStop.{ReplayStop}
 use Rattle.replay_run.specs.declared.stop.ReplayStop.TheVariants.{Write, Memory, Number, Sent}
@@ -40,7 +40,7 @@ step_of s event choice = record { from = s; outcome = outcome s event choice }
 pub record TakesStep (new : S3World) (told : Told) (s : State) (event : Event) : Type 0 where
   pub choice : Decision
   pub lawful : IsLawfulAct s (act_of event choice)
-  pub stands : IsStore new (outcome s event choice).state
+  pub stands : IsRecorded new (outcome s event choice).state
   pub tells : Tells told (outcome s event choice)
   pub goes_on : GoesOn (step_of s event choice)
 
@@ -54,7 +54,7 @@ pub record StepIs (IsSo : Step → Type 0) (s : State) (event : Event) : Type 0 
 pub record Takes (new : S3World) (told : Told) (s : State) (event : Event) : Type 0 where
   pub choice : Decision
   pub lawful : IsLawfulAct s (act_of event choice)
-  pub stands : IsStore new (outcome s event choice).state
+  pub stands : IsRecorded new (outcome s event choice).state
   pub tells : Tells told (outcome s event choice)
   pub go_on : AllByRecursion GoesOn (steps_of s event choice)
 
@@ -68,12 +68,12 @@ pub record StopsIn (IsSo : Step → Type 0) (s : State) (event : Event) : Type 0
 abbrev pub StepStops : S3World → Event → ReplayStop → Type 0
 StepStops old event Write = ⊥
 StepStops old event Memory = ⊤
-StepStops old event Number = ties.Steps IsStore old (λ s. StepIs LacksRoom s event)
-StepStops old event Sent = ties.Steps IsStore old (λ s. StepIs SendsTooMuch s event)
+StepStops old event Number = ties.Steps IsRecorded old (λ s. StepIs LacksRoom s event)
+StepStops old event Sent = ties.Steps IsRecorded old (λ s. StepIs SendsTooMuch s event)
 
 -- up to n deliveries were done, told these lines, and after each of them the replay goes on
 pub record Delivers (new : S3World) (lines : List (Line Applied)) (n : ℕ) (s : State) : Type 0 where
-  pub stands : IsStore new (drains n s).state
+  pub stands : IsRecorded new (drains n s).state
   pub lines_are : lines ≡ (drains n s).lines
   pub go_on : AllByRecursion GoesOn (deliveries n s)
 
@@ -81,27 +81,27 @@ pub record Delivers (new : S3World) (lines : List (Line Applied)) (n : ℕ) (s :
 abbrev pub DrainStops : S3World → ℕ → ReplayStop → Type 0
 DrainStops old n Write = ⊥
 DrainStops old n Memory = ⊤
-DrainStops old n Number = ties.Steps IsStore old (λ s. StopsAt LacksRoom (deliveries n s))
-DrainStops old n Sent = ties.Steps IsStore old (λ s. StopsAt SendsTooMuch (deliveries n s))
+DrainStops old n Number = ties.Steps IsRecorded old (λ s. StopsAt LacksRoom (deliveries n s))
+DrainStops old n Sent = ties.Steps IsRecorded old (λ s. StopsAt SendsTooMuch (deliveries n s))
 
 -- why an event gave up
 abbrev pub EventStops : S3World → Event → ReplayStop → Type 0
 EventStops old event Write = ⊥
 EventStops old event Memory = ⊤
-EventStops old event Number = ties.Steps IsStore old (λ s. StopsIn LacksRoom s event)
-EventStops old event Sent = ties.Steps IsStore old (λ s. StopsIn SendsTooMuch s event)
+EventStops old event Number = ties.Steps IsRecorded old (λ s. StopsIn LacksRoom s event)
+EventStops old event Sent = ties.Steps IsRecorded old (λ s. StopsIn SendsTooMuch s event)
 
 -- the event was given something lawful, the store stands for the state after it, the replay goes on, and this is what is written of what it tells
 pub record TurnsTo (account : Account) (new : S3World) (s : State) (e : Numbered) (text : List ℕ) : Type 0 where
   pub choice : Decision
   pub lawful : IsLawful s (turn e choice)
-  pub stands : IsStore new (outcome_of s (turn e choice)).state
+  pub stands : IsRecorded new (outcome_of s (turn e choice)).state
   pub go_on : AllByRecursion GoesOn (steps_of s e.event choice)
   pub text_is : text ≡ shown account (event_text e (outcome_of s (turn e choice)))
 
 -- whatever state it stood for, it did this event and wrote this
 abbrev pub TurnsOne : Account → S3World → S3World → Numbered → List ℕ → Type 0
-TurnsOne account old new e text = ties.Steps IsStore old (λ s. TurnsTo account new s e text)
+TurnsOne account old new e text = ties.Steps IsRecorded old (λ s. TurnsTo account new s e text)
 
 -- whatever state the store stands for, one of nodes 1 to 16 has such a row
 abbrev pub CannotTell : S3World → Type 0
@@ -109,12 +109,12 @@ CannotTell store = ties.Steps IsStore store IsUnshown
 
 -- whatever state the store stands for, this is the line of a check of it, or nothing where none is asked for
 abbrev pub TellsLine : Account → S3World → List ℕ → Type 0
-TellsLine account store line = ties.Steps IsStore store (λ s. IsLine account s.history line)
+TellsLine account store line = ties.Steps IsRecorded store (λ s. IsLine account s.history line)
 
 -- whatever state the store stands for, this is written first of it
 abbrev pub TellsOpening : Account → S3World → List ℕ → Type 0
-TellsOpening account store text = ties.Steps IsStore store (λ s. text ≡ opening account s)
+TellsOpening account store text = ties.Steps IsRecorded store (λ s. text ≡ opening account s)
 
 -- whatever state the store stands for, this is what is written after so many events
 abbrev pub TellsTail : Account → S3World → ℕ → List ℕ → Type 0
-TellsTail account store events text = ties.Steps IsStore store (λ s. IsTail account events s text)
+TellsTail account store events text = ties.Steps IsRecorded store (λ s. IsTail account events s text)

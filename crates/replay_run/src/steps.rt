@@ -1,7 +1,7 @@
 //! The events of a schedule, step by step.
 ghost use Rattle.std.specs.Prelude.{◌≡◌, IfOk, IfErr};
 ghost use Rattle.store_model.specs.Run.{State};
-ghost use Rattle.s3_world.specs.Stands.{IsStore, HasStore, IsMeantEvent};
+ghost use Rattle.s3_world.specs.Stands.{IsRecorded, HasRecorded, IsMeantEvent};
 ghost use Rattle.replay_run.specs.Turning.{drain_count, TakesStep, Takes, Delivers, StepStops, DrainStops, EventStops};
 
 use crate::stop::ReplayStop;
@@ -16,9 +16,9 @@ pub const SENT_LIMIT: u64 = 268_435_456;
 
 /// Takes one step, and looks at what was sent.
 fn one_step(store: &mut S3World, event: &Event) -> Result<Told, ReplayStop>
-    requires stands { HasStore store.old }
+    requires stands { HasRecorded store.old }
     requires meant { IsMeantEvent event.now }
-    ensures takes { IfOk result (λ told. (s : State) → IsStore store.old s → TakesStep store.new told s event.now) }
+    ensures takes { IfOk result (λ told. (s : State) → IsRecorded store.old s → TakesStep store.new told s event.now) }
     ensures causes { IfErr result (StepStops store.old event.now) }
 {
     let told = store.step(event)?;
@@ -31,8 +31,8 @@ fn one_step(store: &mut S3World, event: &Event) -> Result<Told, ReplayStop>
 
 /// Delivers the least message that was neither delivered nor lost, up to `count` times, each in a step of its own.
 fn drained(alloc: Global, store: &mut S3World, count: u32) -> Result<List<Line>, ReplayStop>
-    requires stands { HasStore store.old }
-    ensures delivers { IfOk result (λ lines. (s : State) → IsStore store.old s → Delivers store.new lines count s) }
+    requires stands { HasRecorded store.old }
+    ensures delivers { IfOk result (λ lines. (s : State) → IsRecorded store.old s → Delivers store.new lines count s) }
     ensures causes { IfErr result (DrainStops store.old count) }
 {
     let mut lines = List::new(alloc);
@@ -60,9 +60,9 @@ fn drain_count(event: &Event) -> Option<u32>
 
 /// Takes the next event, step by step.
 pub(crate) fn takes(alloc: Global, store: &mut S3World, event: &Event) -> Result<Told, ReplayStop>
-    requires stands { HasStore store.old }
+    requires stands { HasRecorded store.old }
     requires meant { IsMeantEvent event.now }
-    ensures takes { IfOk result (λ told. (s : State) → IsStore store.old s → Takes store.new told s event.now) }
+    ensures takes { IfOk result (λ told. (s : State) → IsRecorded store.old s → Takes store.new told s event.now) }
     ensures causes { IfErr result (EventStops store.old event.now) }
 {
     match drain_count(event) {

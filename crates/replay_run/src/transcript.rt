@@ -6,7 +6,7 @@ ghost use Rattle.text_model.specs.Transcript.{told_text};
 ghost use Rattle.replay_run.specs.Account.{shown};
 ghost use Rattle.std.specs.List.{All};
 ghost use Rattle.lab_outside.specs.Rose.{Rose};
-ghost use Rattle.s3_world.specs.Stands.{HasStore, IsMeantEvent};
+ghost use Rattle.s3_world.specs.Stands.{HasRecorded, IsMeantEvent};
 ghost use Rattle.replay_run.specs.Turning.{TurnsOne, EventStops};
 ghost use Rattle.replay_run.specs.Stop.{Halts, IsWhole};
 
@@ -51,7 +51,7 @@ pub fn event_text(
     store: &mut S3World,
     next: &Numbered,
 ) -> Result<Bytes, ReplayStop>
-    requires stands { HasStore store.old }
+    requires stands { HasRecorded store.old }
     requires meant { IsMeantEvent next.now.event }
     ensures turns { IfOk result (λ text. TurnsOne account store.old store.new next.now text) }
     ensures causes { IfErr result (EventStops store.old next.now.event) }

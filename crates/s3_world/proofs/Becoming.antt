@@ -16,7 +16,8 @@ use Rattle.world_core.specs.declared.report.Report.{Report}
 use Rattle.world_core.specs.Stands.{PlaysSo, Turns}
 use Rattle.s3_world.specs.declared.world.S3World.{S3World}
 use Rattle.s3_world.specs.Driven.{known, kept, IsSized}
-use Rattle.s3_world.specs.Reads.{Handed, nothing_handed, asked_at, flow_in, AreRead}
+use Rattle.s3_world.specs.Past.{IsPast}
+use Rattle.s3_world.specs.Reads.{Handed, given_of, asked_at, flow_in, AreRead}
 use Rattle.s3_world.specs.Stands.{Tells, Holds, Becomes, Carries, Keeps, Plays, Overflows}
 use Rattle.s3_world.proofs.Counts.{OpensNone, same_count}
 use Rattle.s3_world.proofs.Reading.{reads_moved}
@@ -25,7 +26,7 @@ use Rattle.s3_world.proofs.Reading.{reads_moved}
 installed_count : (first : Layout) (w : World) → length (installed any_join words w first).requests ≡ length w.requests
 installed_count first w = ap length (append-nil w.requests)
 
-module _ (old new : S3World) (buckets : new.buckets ≡ old.buckets) (block : new.block ≡ old.block) (requests : new.driver.requests ≡ old.driver.requests) (ends : new.driver.ends ≡ old.driver.ends) (history : new.driver.history ≡ old.driver.history) where
+module _ (old new : S3World) (buckets : new.buckets ≡ old.buckets) (block : new.block ≡ old.block) (requests : new.driver.requests ≡ old.driver.requests) (ends : new.driver.ends ≡ old.driver.ends) (past : new.driver.past ≡ old.driver.past) where
   -- the world alone changed
   pub world_becomes : (given : Handed) (f : World → World) → ((w : World) → length (f w).requests ≡ length w.requests) → Turns any_join words old.driver.world new.driver.world f → (s : State) → Holds given old s → Holds given new (record s { world = f s.world })
   world_becomes given f count turns s d = record {
@@ -34,7 +35,7 @@ module _ (old new : S3World) (buckets : new.buckets ≡ old.buckets) (block : ne
     block = block ∙ d.block;
     requests = λ q. subst (λ rs. known (asked_at rs q) ≡ kept (numbered s.asked q)) (sym requests) (d.requests q);
     ends = ends ∙ d.ends;
-    history = ap (λ h. h.0) history ∙ d.history;
+    past = subst (λ p. IsPast given.recorded p s.history) (sym past) d.past;
     sized = d.sized;
     flows = subst (λ rs. (q : ℕ) → IsSized (flow_in (asked_at rs q))) (sym requests) d.flows;
     reads =
@@ -43,18 +44,18 @@ module _ (old new : S3World) (buckets : new.buckets ≡ old.buckets) (block : ne
   }
 
   pub on_installed : (first : Layout) (r : Result Unit Memory) → OnOk r (Turns any_join words old.driver.world new.driver.world (λ w. installed any_join words w first)) → OnOk r (Becomes old new (λ s. acted s (installs first)))
-  on_installed first (Ok done) h = world_becomes nothing_handed (λ w. installed any_join words w first) (installed_count first) h
+  on_installed first (Ok done) h = λ recorded. world_becomes (given_of recorded 0 []) (λ w. installed any_join words w first) (installed_count first) h
   on_installed first (Err e) h = tt
 
   pub on_unchanged : (r : Result Unit Memory) → OnErr r (Turns any_join words old.driver.world new.driver.world (λ w. w)) → OnErr r (Becomes old new silent)
   on_unchanged (Ok done) h = tt
-  on_unchanged (Err e) h = world_becomes nothing_handed (λ w. w) (λ w. refl) h
+  on_unchanged (Err e) h = λ recorded. world_becomes (given_of recorded 0 []) (λ w. w) (λ w. refl) h
 
   -- a step of the world that is known by what it does, opens no request and adds nothing to the history
   pub doing_plays : (f : World → Moving) → ((w : World) → endings (f w).step (does any_join words w (f w)) ≡ []) → ((w : World) → OpensNone (f w).step) → (report : Report AnyRow) (told : Told) →
       told ≡ record { refused = report.refused; words = report.words; lines = report.lines } →
       PlaysSo any_join words old.driver.world new.driver.world report (λ w. does any_join words w (f w)) → Plays old new told (λ s. acted s (moves (f s.world)))
-  doing_plays f none opens report told is plays s d =
+  doing_plays f none opens report told is plays recorded s d =
       let x = plays s.world d.world in
       let t : State = (acted s (moves (f s.world))).state in
       record {
@@ -64,10 +65,10 @@ module _ (old new : S3World) (buckets : new.buckets ≡ old.buckets) (block : ne
           block = block ∙ d.block;
           requests = λ q. subst (λ rs. known (asked_at rs q) ≡ kept (numbered s.asked q)) (sym requests) (d.requests q);
           ends = ends ∙ d.ends;
-          history = ap (λ h. h.0) history ∙ (d.history ∙ (sym (append-nil s.history) ∙ ap (λ rs. s.history ++ rs) (sym (none s.world))));
+          past = subst (λ rs. IsPast recorded new.driver.past rs) (sym (append-nil s.history) ∙ ap (λ rs. s.history ++ rs) (sym (none s.world))) (subst (λ p. IsPast recorded p s.history) (sym past) d.past);
           sized = d.sized;
           flows = subst (λ rs. (q : ℕ) → IsSized (flow_in (asked_at rs q))) (sym requests) d.flows;
-          reads = subst (λ rs. AreRead nothing_handed rs t) (sym requests) (reads_moved nothing_handed old.driver.requests s t.world s.buckets s.block t.history (same_count s.world (f s.world) (opens s.world)) d.reads);
+          reads = subst (λ rs. AreRead (given_of recorded 0 []) rs t) (sym requests) (reads_moved (given_of recorded 0 []) old.driver.requests s t.world s.buckets s.block t.history (same_count s.world (f s.world) (opens s.world)) d.reads);
         };
         tells = subst (λ (t : Told). Tells t (acted s (moves (f s.world)))) (sym is) (record { refused = x.tells.refused; words = x.tells.words; lines = x.tells.lines });
         fits = ((x.stands.fits, x.spelled), tt);
@@ -83,7 +84,7 @@ all_kept old new (Ok done) keeps = λ given s d. subst (λ n. Holds given new (d
 all_kept old new (Err e) keeps = tt
 
 pub all_carried : (old new : S3World) (r : Result Unit Memory) → OnOk r (Keeps old new (λ s. drains (2 ^ 64 - 1) s)) → OnOk r (Carries old new (λ s. acted s (drain all_messages)))
-all_carried old new (Ok done) keeps = all_kept old new (Ok done) keeps nothing_handed
+all_carried old new (Ok done) keeps = λ recorded. all_kept old new (Ok done) keeps (given_of recorded 0 [])
 all_carried old new (Err e) keeps = tt
 
 pub some_kept : (old new : S3World) (n : ℕ) → Keeps old new (λ s. drains n s) → Keeps old new (λ s. acted s (drain n))

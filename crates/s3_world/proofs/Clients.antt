@@ -33,6 +33,7 @@ use Rattle.world_core.specs.Stands.{StandsFor, IsWorld, Steps, Overflows as Worl
 use Rattle.s3_world.specs.declared.asked.Asked.{Asked}
 use Rattle.s3_world.specs.declared.driver.Driver.{Driver}
 use Rattle.s3_world.specs.Driven.{Known, known_with, known, kept, needs_of, needed_of, IsSized, IsHanding, IsDriven, HasRun, Does, Plays, Overflows, Waits, Begins, TakesFlow}
+use Rattle.s3_world.specs.Past.{IsPast}
 use Rattle.s3_world.specs.Reads.{Handed, asked_at, Writes, flow_in, IsLeft, IsWaitingGet, IsReadingAs, IsReading, AreRead}
 use Rattle.s3_world.proofs.Counts.{same_count}
 use Rattle.s3_world.proofs.Getting.{found_of, others_left}
@@ -263,7 +264,7 @@ module _ (f : Flow) (says : Flow → stream.Step) (g : Flow) (phase : Phase AnyR
             world = did.stands;
             requests = known_set old.requests new.requests q (Some now) written s.asked m.request (record m.request { flow = Some g }) m.there d.requests known_is;
             ends = ap (λ (d : Driver F). d.ends) is ∙ d.ends;
-            history = ap (λ (d : Driver F). d.history.0) is ∙ d.history;
+            past = subst (λ p. IsPast given.recorded p s.history) (sym (ap (λ (d : Driver F). d.past) is)) d.past;
             flows = all_written old.requests new.requests q (Some now) written (λ o. IsSized (flow_in o)) d.flows has_block;
             reads =
                 reads_heard old.requests new.requests s t q a takes.there m.request m.there (sym m.kind) f g (subst IsSome (need_is old mid q f takes) needs) takes.waits m.flow written refl refl refl

@@ -15,19 +15,20 @@ use Rattle.world_core.specs.declared.report.Report.{Report}
 use Rattle.world_core.specs.Stands.{Steps, ended}
 use Rattle.s3_world.specs.declared.driver.Driver.{Driver}
 use Rattle.s3_world.specs.Driven.{known, kept, IsSized, IsHanding, HasRun, DoesHeard, PlaysHeard, Overflows}
+use Rattle.s3_world.specs.Past.{IsPast}
 use Rattle.s3_world.specs.Reads.{Handed, asked_at, flow_in, AreRead}
 use Rattle.s3_world.proofs.Counts.{same_count}
 use Rattle.s3_world.proofs.Heard.{heard_when, when_heard}
 use Rattle.s3_world.proofs.Reading.{reads_moved}
 
 module _ {F : Type 0} (old mid : Driver F) (m : ℕ) (report : Report AnyRow) (steps : Steps any_join words old.world mid.world report (Deliver m))
-    (requests : mid.requests ≡ old.requests) (ends : mid.ends ≡ old.ends) (history : mid.history ≡ old.history) where
+    (requests : mid.requests ≡ old.requests) (ends : mid.ends ≡ old.ends) (past : mid.past ≡ old.past) where
   is_next : {given : Handed} (s : State) → IsHanding given old s → IsHanding given mid (doing s (plainly (Deliver m)))
   is_next {given} s d = record {
     world = (steps s.world d.world).does.stands;
     requests = λ q. subst (λ rs. known (asked_at rs q) ≡ kept (numbered s.asked q)) (sym requests) (d.requests q);
     ends = ends ∙ d.ends;
-    history = ap (λ h. h.0) history ∙ d.history;
+    past = subst (λ p. IsPast given.recorded p s.history) (sym past) d.past;
     flows = subst (λ rs. (q : ℕ) → IsSized (flow_in (asked_at rs q))) (sym requests) d.flows;
     reads =
         let t : State = doing s (plainly (Deliver m)) in
@@ -44,7 +45,7 @@ module _ {F : Type 0} (old mid : Driver F) (m : ℕ) (report : Report AnyRow) (s
       let did = (steps s.world d.world).does in
       let after : DoesHeard given heard new more here (goes_on here (effect s (plainly (Deliver m))).ends) = subst (λ (es : List (Ended AnyRow)). DoesHeard given heard new more here (goes_on here es)) did.tells.ends (plays given here (is_next s d)) in
       record {
-        stands = record { world = after.stands.world; requests = after.stands.requests; ends = after.stands.ends; history = after.stands.history; flows = after.stands.flows; reads = after.stands.reads };
+        stands = record { world = after.stands.world; requests = after.stands.requests; ends = after.stands.ends; past = after.stands.past; flows = after.stands.flows; reads = after.stands.reads };
         tells = heard_when heard (record { refused = report.refused; words = report.words; lines = report.lines ++ more.lines }) (delivers s m) (λ e. record {
           refused = did.tells.refused;
           words = did.tells.words;

@@ -12,7 +12,8 @@ use Rattle.store_model.specs.Gets.{body_of}
 use Rattle.store_model.specs.Acts.{takes, acted, end_of, without_end}
 use Rattle.world_core.specs.Stands.{StandsFor}
 use Rattle.s3_world.specs.declared.driver.Driver.{Driver}
-use Rattle.s3_world.specs.Driven.{known_with, known, kept, place_in, IsSized, IsHanding, IsDriven, HasRun, Becomes}
+use Rattle.s3_world.specs.Driven.{known_with, known, kept, place_in, IsSized, IsHanding, IsDriven, IsDrivenAs, HasRun, Becomes}
+use Rattle.s3_world.specs.Past.{IsPast}
 use Rattle.s3_world.specs.Reads.{Handed, of, asked_at, Writes, flow_in, blocks_in, IsLeft, IsOver, with_first}
 use Rattle.s3_world.proofs.Overs.{by_number, ended_is_over}
 use Rattle.s3_world.proofs.Kept.{all_written}
@@ -58,9 +59,9 @@ module _ {F : Type 0} (old : Driver F) (q : ℕ) where
   taken_nowhere at s d = sym (ap (λ es. end_of es q) (sym d.ends) ∙ (placed q old.ends None at).0)
 
   pub left_nowhere : None ≡ place_in old.ends q → Becomes old old (λ s. acted s (takes q))
-  left_nowhere at s d =
+  left_nowhere at recorded s d =
       let same : s.ends ≡ without_end s.ends q = sym (ap (λ es. without_end es q) (sym d.ends) ∙ (placed q old.ends None at).1 ∙ d.ends) in
-      subst (λ es. IsDriven old (record s { ends = es })) same d
+      subst (λ es. IsDrivenAs recorded old (record s { ends = es })) same d
 
   -- the end at a place
   pub end_at : (i : ℕ) (e : ℕ × FlowEnd) → Some i ≡ place_in old.ends q → slice_get old.ends i ≡ Some e → (s : State) → IsDriven old s → Some e.1 ≡ end_of s.ends q
@@ -86,8 +87,8 @@ module _ {F : Type 0} (old : Driver F) (q : ℕ) where
     over_kept (Some m) over = sym (ap (known_with m.node m.kind) over)
 
     -- the ends without it
-    pub left_there : (new : Driver F) → new.world ≡ old.world → Writes old.requests new.requests q None → new.ends ≡ remove old.ends i → new.history ≡ old.history → Becomes old new (λ s. acted s (takes q))
-    left_there new world done ends history s d =
+    pub left_there : (new : Driver F) → new.world ≡ old.world → Writes old.requests new.requests q None → new.ends ≡ remove old.ends i → new.past ≡ old.past → Becomes old new (λ s. acted s (takes q))
+    left_there new world done ends past recorded s d =
         let over : IsOver (numbered s.asked q) = ended_is_over s.asked s.ends q e.1 d.reads.over (ended s d) in
         record {
           world = subst (λ w. StandsFor any_join words w s.world) (sym world) d.world;
@@ -95,7 +96,7 @@ module _ {F : Type 0} (old : Driver F) (q : ℕ) where
               (λ same. subst (λ p. known (asked_at new.requests p) ≡ kept (numbered s.asked p)) same (ap known done.here ∙ over_kept (numbered s.asked q) over))
               (λ other. ap known (done.others p other) ∙ d.requests p);
           ends = ends ∙ (sym (placed q old.ends (Some i) at).2 ∙ ap (λ es. without_end es q) d.ends);
-          history = ap (λ h. h.0) history ∙ d.history;
+          past = subst (λ p. IsPast recorded p s.history) (sym past) d.past;
           flows = all_written old.requests new.requests q None done (λ o. IsSized (flow_in o)) d.flows tt;
-          reads = end_taken old.requests new.requests s q e.1 (ended s d) d.reads done;
+          reads = end_taken old.requests new.requests s q e.1 (ended s d) d.reads done recorded;
         }

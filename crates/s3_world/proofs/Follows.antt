@@ -37,6 +37,7 @@ use Rattle.world_core.specs.Stands.{StandsFor, Steps, Overflows as WorldOverflow
 use Rattle.s3_world.specs.declared.asked.Asked.{Asked}
 use Rattle.s3_world.specs.declared.driver.Driver.{Driver}
 use Rattle.s3_world.specs.Driven.{known_with, known, kept, IsSized, IsHanding, IsDriven, HasRun, DoesHeard, PlaysHeard, Overflows, Finishes, Waits, Begins}
+use Rattle.s3_world.specs.Past.{IsPast}
 use Rattle.s3_world.specs.Reads.{Handed, asked_at, Writes, flow_in, heard, after_phase, AreRead}
 use Rattle.s3_world.proofs.Counts.{same_count}
 use Rattle.s3_world.proofs.Getting.{flow_then, ends_then}
@@ -44,11 +45,12 @@ use Rattle.s3_world.proofs.Heard.{heard_when, heard_all}
 use Rattle.s3_world.proofs.Reading.{reads_next, whatever}
 use Rattle.s3_world.proofs.Phases.{IsGood, StepIsGood, next_is_good}
 use Rattle.s3_world.proofs.Forgets.{still}
+use Rattle.s3_world.proofs.Pasts.{any_past, past_more}
 use Rattle.s3_world.proofs.Kept.{WaitsToo, written_over, all_written, known_set, waiting_at, over_at}
 
 -- whatever was handed out
 pub as_driven : {F : Type 0} (given : Handed) (driver : Driver F) (s : State) → IsHanding given driver s → IsDriven driver s
-as_driven given driver s d = record { world = d.world; requests = d.requests; ends = d.ends; history = d.history; flows = d.flows; reads = whatever given driver.requests s d.reads }
+as_driven given driver s d = record { world = d.world; requests = d.requests; ends = d.ends; past = any_past driver.past s.history d.past; flows = d.flows; reads = whatever given driver.requests s d.reads }
 
 -- ---- nothing
 
@@ -182,9 +184,9 @@ module _ {F : Type 0} (aloud : Bool) (old : Driver F) (q : ℕ) (a : Asked) (at 
           same_block : g.block ≡ f.block
           same_block = let h : StepIsGood f.block (More g phase) = subst (StepIsGood f.block) more good in h.0
 
-          more_plays : (new : Driver F) (report : Report AnyRow) (told : Told) → Steps any_join words old.world new.world report (step.Phase q phase) → new.ends ≡ old.ends → new.history ≡ old.history →
+          more_plays : (new : Driver F) (report : Report AnyRow) (told : Told) → Steps any_join words old.world new.world report (step.Phase q phase) → new.ends ≡ old.ends → new.past ≡ old.past →
               Writes old.requests new.requests q (Some (now_kept (Some g))) → told ≡ record { refused = None; words = Empty; lines = report.lines } → PlaysHeard aloud old new told (λ s. follow s q (numbered s.asked q) end)
-          more_plays new report told steps ends history writes says given s d =
+          more_plays new report told steps ends past writes says given s d =
               let m = waiting s d in
               let then = (steps s.world d.world).does in
               let t : State = (goes (seen s) q m.request (drawn s d) g phase).state in
@@ -200,7 +202,7 @@ module _ {F : Type 0} (aloud : Bool) (old : Driver F) (q : ℕ) (a : Asked) (at 
                   world = then.stands;
                   requests = known_now new.requests (Some g) writes s d;
                   ends = ends ∙ d.ends;
-                  history = ap (λ h. h.0) history ∙ d.history;
+                  past = subst (λ p. IsPast given.recorded p s.history) (sym past) d.past;
                   flows = sized_now new.requests (Some g) writes s d has_block;
                   reads = read;
                 };
@@ -216,7 +218,7 @@ module _ {F : Type 0} (aloud : Bool) (old : Driver F) (q : ℕ) (a : Asked) (at 
               IfOk r (λ told. PlaysHeard aloud old new told (λ s. follow s q (numbered s.asked q) end))
           more_begins mid new x is_heard heard (Err e) h = tt
           more_begins mid new x is_heard heard (Ok told) h =
-              more_plays new h.report told h.begins (ap (λ (d : Driver F). d.ends) h.rest) (ap (λ (d : Driver F). d.history) h.rest) (waited mid new.requests x g is_heard heard h.waits) h.tells
+              more_plays new h.report told h.begins (ap (λ (d : Driver F). d.ends) h.rest) (ap (λ (d : Driver F). d.past) h.rest) (waited mid new.requests x g is_heard heard h.waits) h.tells
 
           pub more_overflows : WorldOverflows any_join words old.world (step.Phase q phase) → Overflows old (λ s. follow s q (numbered s.asked q) end)
           more_overflows full s d fits =
@@ -238,7 +240,7 @@ module _ {F : Type 0} (aloud : Bool) (old : Driver F) (q : ℕ) (a : Asked) (at 
                   world = d.world;
                   requests = known_now requests (Some g) writes s d;
                   ends = d.ends;
-                  history = d.history;
+                  past = d.past;
                   flows = sized_now requests (Some g) writes s d has_block;
                   reads =
                       reads_now s t d requests (subst (λ fl. Writes old.requests requests q (Some (now_kept fl))) going_on writes) (ap (λ fl. slice_set s.asked (q - 1) (record m.request { flow = fl })) going_on)
@@ -273,7 +275,7 @@ module _ {F : Type 0} (aloud : Bool) (old : Driver F) (q : ℕ) (a : Asked) (at 
                   world = then.stands;
                   requests = known_now new.requests None writes s d;
                   ends = ap (λ (n : Driver F). n.ends) fin.rest ∙ ap (λ es. es ++ (q, last) ∷ []) d.ends;
-                  history = ap (λ (n : Driver F). n.history.0) fin.rest ∙ ap (λ h. h ++ record_of q last ∷ []) d.history;
+                  past = subst (λ p. IsPast given.recorded p t.history) (sym (ap (λ (n : Driver F). n.past) fin.rest)) (past_more given.recorded old.past s.history (record_of q last ∷ []) d.past);
                   flows = sized_now new.requests None writes s d tt;
                   reads = read;
                 };

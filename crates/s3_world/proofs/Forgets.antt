@@ -28,7 +28,7 @@ module _ {F : Type 0} (old : Driver F) (requests : BTreeMap ℕ Asked) (q : ℕ)
     world = d.world;
     requests = λ p. same_for old.requests requests q now w known before at known_is p ∙ d.requests p;
     ends = d.ends;
-    history = d.history;
+    past = d.past;
     flows = λ p. subst IsSized (sym (same_for old.requests requests q now w flow_in before at flow_is p)) (d.flows p);
     reads = reads_same given old.requests requests s (same_for old.requests requests q now w found_in before at found_is) (same_for old.requests requests q now w blocks_in before at blocks_are)
         (all_written old.requests requests q now w IsReadingIn d.reads.reading (reading (subst IsReadingIn at (d.reads.reading q)))) d.reads;

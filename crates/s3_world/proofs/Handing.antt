@@ -18,7 +18,7 @@ use Rattle.store_model.specs.Acts.{end_of, without_end}
 use Rattle.store_model.specs.Gets.{object_seen, is_get, is_there, stage_of, gathered_at, body_of, gathered, found_by}
 use Rattle.s3_world.specs.declared.asked.Asked.{Asked}
 use Rattle.s3_world.specs.Driven.{kept}
-use Rattle.s3_world.specs.Reads.{Handed, of, nothing_handed, asked_at, Writes, found_in, blocks_in, IsLeft, IsHanded, HasNoBlock, IsWaitingGet, IsReadingAs, IsReadingIn, IsOver, AreRead, HasAll}
+use Rattle.s3_world.specs.Reads.{Handed, of, given_of, asked_at, Writes, found_in, blocks_in, IsLeft, IsHanded, HasNoBlock, IsWaitingGet, IsReadingAs, IsReadingIn, IsOver, AreRead, HasAll}
 use Rattle.s3_world.proofs.Overs.{by_number, others_without, ended_is_over, over_without, taken_is_gone}
 use Rattle.s3_world.proofs.Kept.{WaitsToo, all_written, over_at}
 use Rattle.s3_world.proofs.Reading.{nobody_handed}
@@ -63,7 +63,7 @@ module _ (requests requests_less : BTreeMap ℕ Asked) (s : State) (q : ℕ) (a 
   left_less : (p : ℕ) (bytes all : List ℕ) → (q ≡ p → ⊥) → IsLeft (blocks_in (asked_at requests p)) bytes all → IsLeft (blocks_in (asked_at requests_less p)) bytes all
   left_less p bytes all other h = subst (λ o. IsLeft (blocks_in o) bytes all) (sym (less.others p other)) h
 
-  pub piece_handed : (bytes : List ℕ) → AreRead (of q bytes) requests s → AreRead (of q (bytes ++ piece)) requests_less s
+  pub piece_handed : {recorded : Bool} (bytes : List ℕ) → AreRead (given_of recorded q bytes) requests s → AreRead (given_of recorded q (bytes ++ piece)) requests_less s
   piece_handed bytes reads = record {
     found = λ p. by_number q p (found_in (asked_at requests_less p) ≡ found_by s p)
         (λ same. subst (λ p. found_in (asked_at requests_less p) ≡ found_by s p) same (ap found_in less.here ∙ (sym (ap found_in at) ∙ reads.found q)))
@@ -194,8 +194,8 @@ module _ (requests requests_done : BTreeMap ℕ Asked) (s : State) (q : ℕ) (en
           (h.0, subst (λ o. IsLeft (blocks_in o) h.0 (gathered without p)) (sym (done.others p other)) (subst (IsLeft (blocks_in (asked_at requests p)) h.0) (sym (gathered_still p other)) h.1))
           ))
 
-      pub end_taken : AreRead nothing_handed requests_done without
-      end_taken = record {
+      pub end_taken : (recorded : Bool) → AreRead (given_of recorded 0 []) requests_done without
+      end_taken recorded = record {
         found = found_done;
         left = left_done;
         handed = nobody_handed requests_done without 0 refl (over_without s.asked s.ends q reads.over) (left_done 0);

@@ -18,6 +18,7 @@ pub mod Objects
 pub mod Opens
 pub mod Overs
 pub mod Parts
+pub mod Pasts
 pub mod Phases
 pub mod Places
 pub mod Plain

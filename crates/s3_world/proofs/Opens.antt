@@ -24,12 +24,14 @@ use Rattle.world_core.specs.Stands.{StandsFor, IsWorld, Steps, Overflows as Worl
 use Rattle.s3_world.specs.declared.asked.Asked.{Asked}
 use Rattle.s3_world.specs.declared.driver.Driver.{Driver}
 use Rattle.s3_world.specs.Driven.{known_with, known, kept, IsSized, IsReady, IsDriven, HasRun, PlaysIf, OverflowsIf}
+use Rattle.s3_world.specs.Past.{with_records, IsPast}
 use Rattle.s3_world.specs.Reads.{Writes, flow_in, IsReadingAs}
 use Rattle.s3_world.proofs.Phases.{IsGood, first_is_good}
 use Rattle.s3_world.proofs.Counts.{same_count}
 use Rattle.s3_world.proofs.Kept.{all_written, known_pushed}
 use Rattle.s3_world.proofs.Reading.{begun_reads}
 use Rattle.s3_world.proofs.Follows.{as_driven}
+use Rattle.s3_world.proofs.Pasts.{past_more}
 
 opened_count : (w : Model AnyRow) (n : ℕ) → is_member_at layouts w n ≡ true → length (next any_join words w (plainly (Open n))).requests ≡ suc (length w.requests)
 opened_count w n m =
@@ -64,9 +66,9 @@ module _ {F : Type 0} (old : Driver F) (node : ℕ) (order : Order) (block : ℕ
     begun s d m = is_first ∙ ap (λ q. started order q block) (the_number s d m) ∙ ap (started order (suc (length s.world.requests))) (sym m.1)
 
     pub opened_plays : (new : Driver F) (more : Report AnyRow) (told : Told) → Steps any_join words mid new.world more (Begin number phase) → new.ends ≡ old.ends →
-        Writes old.requests new.requests number (Some (record { node = node; kind = kind_of order; flow = Some flow; found = None; blocks = None })) → new.history.0 ≡ old.history.0 ++ began_with number node order ∷ [] →
+        Writes old.requests new.requests number (Some (record { node = node; kind = kind_of order; flow = Some flow; found = None; blocks = None })) → new.past ≡ with_records old.past (began_with number node order ∷ []) →
         told.refused ≡ None → told.words ≡ One number → told.lines ≡ more.lines → PlaysIf (IsReady node block) old new told (λ s. opened s node order)
-    opened_plays new more told second ends requests history refused words_are lines given s h m =
+    opened_plays new more told second ends requests past refused words_are lines given s h m =
         let d : IsDriven old s = as_driven given old s h in
         let q = suc (length s.world.requests) in
         let count = the_number s d m in
@@ -90,7 +92,9 @@ module _ {F : Type 0} (old : Driver F) (node : ℕ) (order : Order) (block : ℕ
             world = two.stands;
             requests = known_pushed old.requests new.requests s.asked fresh asked writes h.requests known_is;
             ends = ends ∙ d.ends;
-            history = history ∙ ap (λ n. old.history.0 ++ began_with n node order ∷ []) count ∙ ap (λ h. h ++ began_with q node order ∷ []) d.history;
+            past =
+                subst (λ p. IsPast given.recorded p t.history) (sym (past ∙ ap (λ n. with_records old.past (began_with n node order ∷ [])) count))
+                (past_more given.recorded old.past s.history (began_with q node order ∷ []) h.past);
             flows = all_written old.requests new.requests (suc (length s.asked)) (Some fresh) writes (λ o. IsSized (flow_in o)) h.flows sized;
             reads = begun_reads old.requests new.requests s t fresh asked refl refl reading writes refl refl refl count_is given h.reads;
           };

@@ -1,5 +1,5 @@
 -- A step of the world that concerns no requests but those that it ends.
-use Rattle.std.proofs.Common.{◌≡◌, ℕ, true, false, Option, Some, None, List, [], ◌∷◌, ◌++◌, refl, sym, ap, ◌∙◌, subst, append-nil}
+use Rattle.std.proofs.Common.{◌≡◌, ℕ, true, false, Option, Some, None, List, [], ◌∷◌, ◌++◌, refl, sym, ap, ◌∙◌, subst}
 use Rattle.std.specs.Prelude.{Bool, not, is_some, map}
 use Rattle.crdt_rows.specs.declared.any_row.AnyRow.{AnyRow}
 use Rattle.crdt_rows.specs.AnyRow.{any_join}
@@ -23,10 +23,13 @@ use Rattle.store_model.specs.Acts.{plain, endings}
 use Rattle.world_core.specs.declared.report.Report.{Report}
 use Rattle.world_core.specs.Stands.{Steps, Tells}
 use Rattle.s3_world.specs.declared.driver.Driver.{Driver}
+use Rattle.s3_world.specs.declared.past.Past.{Past}
 use Rattle.s3_world.specs.Driven.{known, kept, IsSized, PlaysStep}
+use Rattle.s3_world.specs.Past.{with_records, IsPast}
 use Rattle.s3_world.specs.Reads.{asked_at, flow_in, AreRead}
 use Rattle.s3_world.specs.Stands.{IsQuiet}
 use Rattle.s3_world.proofs.Counts.{OpensNone}
+use Rattle.s3_world.proofs.Pasts.{past_more, past_still}
 use Rattle.s3_world.proofs.Reading.{reads_plain}
 
 -- with this choice
@@ -80,8 +83,8 @@ endings_none (step.Open n) q e = refl
 endings_none (step.Phase r phase) q e = refl
 endings_none (step.Close r) q e = refl
 
-pub same_history : (history : List Record) (st : Step AnyRow) → IsQuiet st → (e : Done AnyRow) → history ≡ history ++ endings st e
-same_history history st q e = sym (ap (history ++◌) (endings_none st q e) ∙ append-nil history)
+pub same_past : (past : Past) (st : Step AnyRow) → IsQuiet st → (e : Done AnyRow) → past ≡ with_records past (endings st e)
+same_past past st q e = past_still past ∙ ap (with_records past) (sym (endings_none st q e))
 
 -- a test of an option
 pub none_is : {A : Type 0} (o : Option A) (b : Bool) → not b ≡ is_some o → b ≡ true → o ≡ None
@@ -109,15 +112,17 @@ closes_none w q (Some r) why h = elim r.is_open as (λ b. r.is_open ≡ b → (e
   | false ↦ λ is h. rw is refl
 ] refl h
 
--- what an expiry adds to the history
-pub expired_history : (old now : List Record) (w : Model AnyRow) (q : ℕ) (choice : Decision) → (does any_join words w (moving (step.Expire q) choice)).refused ≡ None → now ≡ old ++ Ended q Expired ∷ [] → now ≡ old ++ endings (step.Expire q) (does any_join words w (moving (step.Expire q) choice))
-expired_history old now w q choice none is = is ∙ ap (λ qs. old ++ map (λ q. Ended q Expired) qs) (sym (closes_one w q (numbered w.requests q) none))
+-- what an expiry adds to the past
+pub expired_past : (old now : Past) (w : Model AnyRow) (q : ℕ) (choice : Decision) → (does any_join words w (moving (step.Expire q) choice)).refused ≡ None → now ≡ with_records old (Ended q Expired ∷ []) →
+    now ≡ with_records old (endings (step.Expire q) (does any_join words w (moving (step.Expire q) choice)))
+expired_past old now w q choice none is = is ∙ ap (λ qs. with_records old (map (λ q. Ended q Expired) qs)) (sym (closes_one w q (numbered w.requests q) none))
 
-pub refused_history : (old now : List Record) (w : Model AnyRow) (q : ℕ) (choice : Decision) (why : Refusal Cut) → (does any_join words w (moving (step.Expire q) choice)).refused ≡ Some why → now ≡ old → now ≡ old ++ endings (step.Expire q) (does any_join words w (moving (step.Expire q) choice))
-refused_history old now w q choice why some is = is ∙ sym (ap (λ qs. old ++ map (λ q. Ended q Expired) qs) (closes_none w q (numbered w.requests q) why some) ∙ append-nil old)
+pub refused_past : (old : Past) (w : Model AnyRow) (q : ℕ) (choice : Decision) (why : Refusal Cut) → (does any_join words w (moving (step.Expire q) choice)).refused ≡ Some why →
+    old ≡ with_records old (endings (step.Expire q) (does any_join words w (moving (step.Expire q) choice)))
+refused_past old w q choice why some = past_still old ∙ ap (λ qs. with_records old (map (λ q. Ended q Expired) qs)) (sym (closes_none w q (numbered w.requests q) why some))
 
 module _ {F : Type 0} (old new : Driver F) (st : Step AnyRow) (report : Report AnyRow) (steps : Steps any_join words old.world new.world report st) (opens : OpensNone st) (requests : new.requests ≡ old.requests) (ends : new.ends ≡ old.ends)
-    (history : (w : Model AnyRow) (choice : Decision) → Tells report (does any_join words w (moving st choice)) → new.history.0 ≡ old.history.0 ++ endings st (does any_join words w (moving st choice))) where
+    (past : (w : Model AnyRow) (choice : Decision) → Tells report (does any_join words w (moving st choice)) → new.past ≡ with_records old.past (endings st (does any_join words w (moving st choice)))) where
   pub step_played : (told : Told) → told ≡ record { refused = report.refused; words = report.words; lines = report.lines } → PlaysStep old new told st
   step_played told says given s d =
       let did = steps s.world d.world in
@@ -131,7 +136,9 @@ module _ {F : Type 0} (old new : Driver F) (st : Step AnyRow) (report : Report A
             world = did.does.stands;
             requests = λ q. subst (λ rs. known (asked_at rs q) ≡ kept (numbered s.asked q)) (sym requests) (d.requests q);
             ends = ends ∙ d.ends;
-            history = history s.world did.choice did.does.tells ∙ ap (λ rs. rs ++ endings st (does any_join words s.world m)) d.history;
+            past =
+                let more : List Record = endings st (does any_join words s.world m) in
+                subst (λ p. IsPast given.recorded p (s.history ++ more)) (sym (past s.world did.choice did.does.tells)) (past_more given.recorded old.past s.history more d.past);
             flows = subst (λ rs. (q : ℕ) → IsSized (flow_in (asked_at rs q))) (sym requests) d.flows;
             reads = subst (λ rs. AreRead given rs t) (sym requests) (reads_plain given old.requests s m t.history opens d.reads);
           };

@@ -21,7 +21,7 @@ use Rattle.store_model.specs.Turns.{FitsOutcome}
 use Rattle.world_core.specs.Stands.{nothing_given}
 use Rattle.s3_world.specs.declared.world.S3World.{S3World}
 use Rattle.s3_world.specs.Doing as doing
-use Rattle.s3_world.specs.Reads.{Handed, nothing_handed}
+use Rattle.s3_world.specs.Reads.{Handed, given_of}
 use Rattle.s3_world.specs.Stands.{Holds, IsCalm, KeepsTold, KeepsStep, KeepsIn, PlaysEvent, Overflows, OverflowsStep, OverflowsEvent}
 use Rattle.s3_world.proofs.Causes.{Comes, same_causes}
 use Rattle.s3_world.proofs.Plain.{moving}
@@ -89,7 +89,7 @@ module _ (old new : S3World) (node : ℕ) (r : Result Told Memory) where
 module _ (old new : S3World) (event : Event) where
   pub plays_kept : (r : Result Told Memory) → IfOk r (λ told. KeepsIn old new told event) → IfOk r (λ told. PlaysEvent old new told event)
   plays_kept (Err e) h = tt
-  plays_kept (Ok told) h = h nothing_handed
+  plays_kept (Ok told) h = λ recorded. h (given_of recorded 0 [])
 
   pub calm_kept : (r : Result Told Memory) → IfOk r (λ told. KeepsIn old new told event) → IfOk r (λ told. IsCalm event → KeepsIn old new told event)
   calm_kept (Err e) h = tt

@@ -12,9 +12,9 @@ use Rattle.store_model.specs.declared.event.Told.{Told}
 use Rattle.store_model.specs.Orders.{buckets_of}
 use Rattle.store_model.specs.Run.{State, Outcome, refusal, are_buckets, opened, begins}
 use Rattle.s3_world.specs.declared.world.S3World.{S3World}
-use Rattle.s3_world.specs.Reads.{of, nothing_handed}
-use Rattle.s3_world.specs.Stands.{IsStore, IsGiving, HasStore, KeepsTold, Starts, GivesNone}
-use Rattle.s3_world.proofs.Storing.{gives_none}
+use Rattle.s3_world.specs.Reads.{given_of, nothing_handed}
+use Rattle.s3_world.specs.Stands.{IsStore, IsGivingAs, HasStore, KeepsTold, Starts, GivesNone}
+use Rattle.s3_world.proofs.Storing.{as_store, gives_none}
 
 -- an outcome that isn't a refusal has this number
 abbrev HasNumber : State → Outcome → Type 0
@@ -35,18 +35,18 @@ module _ (old new : S3World) (told : Told) (n : ℕ) (order : Order) (keeps : Ke
   number_told none s d = let does = keeps nothing_handed s d in does.tells.words ∙ begun_number s n order (sym does.tells.refused ∙ none)
 
   pub refused_starts : (reason : Refusal Cut) → told.refused ≡ Some reason → Starts old new (Err reason) n order
-  refused_starts reason is s d = let does = keeps nothing_handed s d in (does.stands, does.fits, sym does.tells.refused ∙ is)
+  refused_starts reason is recorded s d = let does = keeps (given_of recorded 0 []) s d in (does.stands, does.fits, sym does.tells.refused ∙ is)
 
   pub number_starts : (number : ℕ) → told.refused ≡ None → told.words ≡ One number → Starts old new (Ok number) n order
-  number_starts number none is s d = let does = keeps nothing_handed s d in (does.stands, does.fits, (sym does.tells.refused ∙ none, sym does.tells.words ∙ is))
+  number_starts number none is recorded s d = let does = keeps (given_of recorded 0 []) s d in (does.stands, does.fits, (sym does.tells.refused ∙ none, sym does.tells.words ∙ is))
 
   pub number_gives : (number : ℕ) → told.refused ≡ None → told.words ≡ One number → GivesNone old new (Ok number) n order
-  number_gives number none is s d =
+  number_gives number none is recorded s d =
       let next : ℕ = suc (length s.world.requests) in
-      let same : One next ≡ One number = sym (number_told none s d) ∙ is in
+      let same : One next ≡ One number = sym (number_told none s (as_store old s d)) ∙ is in
       let number_is : next ≡ number = cc in
-      let does = keeps (of next []) s (gives_none old s d) in
-      subst (λ q. IsGiving new (begins s n order).state q []) number_is does.stands
+      let does = keeps (given_of recorded next []) s (gives_none old s d) in
+      subst (λ q. IsGivingAs recorded new (begins s n order).state q []) number_is does.stands
 
   -- so it is told
   pub has_number : HasStore old → told.refused ≡ None → (number : ℕ) × (told.words ≡ One number)

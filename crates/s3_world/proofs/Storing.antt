@@ -18,8 +18,9 @@ use Rattle.s3_world.specs.Driven as driven
 use Rattle.s3_world.specs.Driven.{IsReady, IsHanding, IsDriven, HasRun}
 use Rattle.s3_world.specs.Reads.{Handed, of, HasAll}
 use Rattle.s3_world.specs.Doing as doing
-use Rattle.s3_world.specs.Stands.{Holds, IsStore, IsGiving, HasStore, Becomes, Keeps as KeepsGiven, KeepsTold, KeepsIf, KeepsStep, Overflows, OverflowsIf, OverflowsStep}
+use Rattle.s3_world.specs.Stands.{Holds, IsStore, IsStoreAs, IsRecorded, IsGiving, IsGivingAs, HandsPiece, HasStore, HasRecorded, Becomes, Keeps as KeepsGiven, KeepsTold, KeepsIf, KeepsStep, Overflows, OverflowsIf, OverflowsStep}
 use Rattle.s3_world.proofs.Keeping.{Keeps}
+use Rattle.s3_world.proofs.Pasts.{any_past}
 use Rattle.s3_world.proofs.Reading.{whatever, reads_moved, number_to_come}
 
 abbrev IsMember : ℕ → State → Type 0
@@ -27,7 +28,7 @@ IsMember n s = is_member_at layouts s.world n ≡ true
 
 -- the store's driver is its state's
 pub is_handing : {given : Handed} (c : S3World) (s : State) → Holds given c s → IsHanding given c.driver s
-is_handing c s d = record { world = d.world; requests = d.requests; ends = d.ends; history = d.history; flows = d.flows; reads = d.reads }
+is_handing c s d = record { world = d.world; requests = d.requests; ends = d.ends; past = d.past; flows = d.flows; reads = d.reads }
 
 pub is_driven : (c : S3World) (s : State) → IsStore c s → IsDriven c.driver s
 is_driven c s d = is_handing c s d
@@ -40,11 +41,18 @@ as_store {given} c s d = record {
   block = d.block;
   requests = d.requests;
   ends = d.ends;
-  history = d.history;
+  past = any_past c.driver.past s.history d.past;
   sized = d.sized;
   flows = d.flows;
   reads = whatever given c.driver.requests s d.reads;
 }
+
+pub has_store : (c : S3World) → HasRecorded c → HasStore c
+has_store c h = (h.0, as_store c h.0 h.1)
+
+pub as_stores : (r : Result S3World Memory) (s : State) → IfOk r (λ c. IsRecorded c s) → IfOk r (λ c. IsStore c s)
+as_stores (Ok c) s h = as_store c s h
+as_stores (Err e) s h = tt
 
 pub has_run : (c : S3World) → HasStore c → HasRun c.driver
 has_run c h = (h.0, is_driven c h.0 h.1)
@@ -54,20 +62,20 @@ pub has_bytes : (c : S3World) → HasStore c → 0 < c.block
 has_bytes c h = subst (λ b. 0 < b) (sym h.1.block) h.1.sized
 
 -- of a request that is to come nothing was handed out
-pub gives_none : (c : S3World) (s : State) → IsStore c s → IsGiving c s (suc (length s.world.requests)) []
+pub gives_none : {recorded : Bool} (c : S3World) (s : State) → IsStoreAs recorded c s → IsGivingAs recorded c s (suc (length s.world.requests)) []
 gives_none c s d = record {
   world = d.world;
   buckets = d.buckets;
   block = d.block;
   requests = d.requests;
   ends = d.ends;
-  history = d.history;
+  past = d.past;
   sized = d.sized;
   flows = d.flows;
   reads = record {
     found = d.reads.found;
     left = d.reads.left;
-    handed = number_to_come c.driver.requests s d.reads;
+    handed = number_to_come c.driver.requests s (whatever _ c.driver.requests s d.reads);
     reading = d.reads.reading;
     over = d.reads.over;
     seen = d.reads.seen;
@@ -87,7 +95,7 @@ module _ (old : S3World) (new : Driver ObjectFlows) where
     block = d.block ∙ sym keeps.1;
     requests = h.requests;
     ends = h.ends;
-    history = h.history;
+    past = h.past;
     sized = subst (λ b. 0 < b) (sym keeps.1) d.sized;
     flows = h.flows;
     reads = h.reads;
@@ -97,10 +105,10 @@ module _ (old : S3World) (new : Driver ObjectFlows) where
   does told s o d keeps h = record { stands = is_store s o.state d keeps h.stands; tells = h.tells; fits = h.fits }
 
   -- a block was handed out, or none
-  pub piece_given : (q : ℕ) (r : Option (List ℕ)) → IfSome r (λ piece. (s : State) (bytes : List ℕ) → IsHanding (of q bytes) old.driver s → IsHanding (of q (bytes ++ piece)) new s) →
-      IfSome r (λ piece. (s : State) (bytes : List ℕ) → IsGiving old s q bytes → IsGiving after s q (bytes ++ piece))
+  pub piece_given : (q : ℕ) (r : Option (List ℕ)) → IfSome r (λ piece. driven.HandsPiece old.driver new q piece) →
+      IfSome r (λ piece. HandsPiece old after q piece)
   piece_given q None h = tt
-  piece_given q (Some piece) h = λ s bytes d. is_store s s d (refl, refl) (h s bytes (is_handing old s d))
+  piece_given q (Some piece) h = λ recorded s bytes d. is_store s s d (refl, refl) (h recorded s bytes (is_handing old s d))
 
   pub none_given : (r : Option (List ℕ)) → IfNone r (new ≡ old.driver) → IfNone r (after ≡ old)
   none_given None h = ap (λ driver. record old { driver = driver }) h
@@ -108,7 +116,7 @@ module _ (old : S3World) (new : Driver ObjectFlows) where
 
   module _ (f : State → Outcome) (keeps : (s : State) → Keeps s (f s).state) where
     pub becomes : driven.Becomes old.driver new f → Becomes old after f
-    becomes h s d = is_store s (f s).state d (keeps s) (h s (is_driven old s d))
+    becomes h recorded s d = is_store s (f s).state d (keeps s) (h recorded s (is_handing old s d))
 
     pub plays : (r : Result Told Memory) → IfOk r (λ told. driven.Plays old.driver new told f) → IfOk r (λ told. KeepsTold old after told f)
     plays (Err e) h = tt
@@ -144,7 +152,7 @@ module _ (old : S3World) where
         block = refl;
         requests = d.requests;
         ends = d.ends;
-        history = d.history;
+        past = d.past;
         sized = omega arith;
         flows = d.flows;
         reads = reads_moved given old.driver.requests s s.world s.buckets size s.history refl d.reads;
@@ -163,7 +171,7 @@ module _ (old : S3World) where
           block = d.block;
           requests = d.requests;
           ends = d.ends;
-          history = d.history;
+          past = d.past;
           sized = d.sized;
           flows = d.flows;
           reads = reads_moved given old.driver.requests s s.world t.buckets s.block s.history refl d.reads;

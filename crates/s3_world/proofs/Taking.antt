@@ -6,8 +6,8 @@ use Rattle.store_model.specs.Run.{State}
 use Rattle.flow_model.specs.declared.flow.Flow.{Flow}
 use Rattle.s3_world.specs.declared.asked.Asked.{Asked}
 use Rattle.s3_world.specs.declared.driver.Driver.{Driver}
-use Rattle.s3_world.specs.Driven.{known_with, known, IsSized, IsHanding}
-use Rattle.s3_world.specs.Reads.{of, asked_at, Writes, flow_in, HasNoBlock, has_block, HasAll}
+use Rattle.s3_world.specs.Driven.{known_with, known, IsSized, IsHanding, HandsPiece}
+use Rattle.s3_world.specs.Reads.{of, given_of, asked_at, Writes, flow_in, HasNoBlock, has_block, HasAll}
 use Rattle.s3_world.proofs.Overs.{differs}
 use Rattle.s3_world.proofs.Kept.{same_for, waiting_at}
 use Rattle.s3_world.proofs.Handing.{piece_handed, all_handed, over_handed}
@@ -37,19 +37,19 @@ module _ {F : Type 0} (old : Driver F) (q : ℕ) where
       abbrev taken : Driver F
       taken = record old { requests = requests }
 
-      piece_is : (piece : List ℕ) (rest : List (List ℕ)) → a.blocks ≡ Some (piece ∷ rest) → Writes old.requests requests q (Some (record a { blocks = Some rest })) → (s : State) (bytes : List ℕ) → IsHanding (of q bytes) old s → IsHanding (of q (bytes ++ piece)) taken s
-      piece_is piece rest waits less s bytes d =
+      piece_is : (piece : List ℕ) (rest : List (List ℕ)) → a.blocks ≡ Some (piece ∷ rest) → Writes old.requests requests q (Some (record a { blocks = Some rest })) → HandsPiece old taken q piece
+      piece_is piece rest waits less recorded s bytes d =
           let now : Option Asked = Some (record a { blocks = Some rest }) in
           record {
             world = d.world;
             requests = λ p. same_for old.requests requests q now less known (Some a) at refl p ∙ d.requests p;
             ends = d.ends;
-            history = d.history;
+            past = d.past;
             flows = λ p. subst IsSized (sym (same_for old.requests requests q now less flow_in (Some a) at refl p)) (d.flows p);
             reads = piece_handed old.requests requests s q a at piece rest waits less bytes d.reads;
           }
 
       pub piece_taken : (now : Asked) → Writes old.requests requests q (Some now) → (r : Option (List ℕ)) → IfSome r (λ piece. (rest : List (List ℕ)) × (a.blocks ≡ Some (piece ∷ rest)) × (now ≡ record a { blocks = Some rest })) →
-          IfSome r (λ piece. (s : State) (bytes : List ℕ) → IsHanding (of q bytes) old s → IsHanding (of q (bytes ++ piece)) taken s)
+          IfSome r (λ piece. HandsPiece old taken q piece)
       piece_taken now w None h = tt
       piece_taken now w (Some piece) h = piece_is piece h.0 h.1 (subst (λ b. Writes old.requests requests q (Some b)) h.2 w)

@@ -1,5 +1,5 @@
 -- When the driver of requests stands for a state of the model, whatever its buckets and its size of blocks are, and what a call of it does.
-use Rattle.std.specs.Prelude.{◌≡◌, ◌==◌, ◌<◌, ℕ, ⊤, Bool, true, if◌then◌else◌, Option, Some, None, List, [], ◌∷◌, ◌++◌, option_map, position}
+use Rattle.std.specs.Prelude.{◌≡◌, ◌==◌, ◌<◌, ℕ, ⊤, Bool, true, false, if◌then◌else◌, Option, Some, None, List, [], ◌∷◌, ◌++◌, option_map, position}
 use Rattle.std.specs.BTreeMap.{BTreeMap}
 use Rattle.std.specs.Option.{option_and_then}
 use Rattle.crdt_rows.specs.declared.any_row.AnyRow.{AnyRow}
@@ -22,7 +22,8 @@ use Rattle.world_core.specs.declared.report.Report.{Report}
 use Rattle.world_core.specs.Stands.{StandsFor, Steps}
 use Rattle.s3_world.specs.declared.asked.Asked.{Asked}
 use Rattle.s3_world.specs.declared.driver.Driver.{Driver}
-use Rattle.s3_world.specs.Reads.{Handed, nothing_handed, asked_at, flow_in, Writes, AreRead}
+use Rattle.s3_world.specs.Past.{with_records, IsPast}
+use Rattle.s3_world.specs.Reads.{Handed, given_of, asked_at, flow_in, Writes, AreRead}
 use Rattle.s3_world.specs.Doing as doing
 
 -- where a request is that waits for something, what it does, and what it waits for
@@ -65,18 +66,22 @@ abbrev pub IsReady : ℕ → ℕ → State → Type 0
 IsReady n size s = (is_member_at layouts s.world n ≡ true) × (s.block ≡ size)
 
 module _ {F : Type 0} where
-  -- the driver's world, ends and history are those of this state, of each request that waits for something it knows the same, and these bytes were handed out
+  -- the driver's world and ends are those of this state, of each request that waits for something it knows the same, it has the history or nothing, and these bytes were handed out
   pub record IsHanding (given : Handed) (d : Driver F) (s : State) : Type 0 where
     pub world : StandsFor any_join words d.world s.world
     pub requests : (q : ℕ) → known (asked_at d.requests q) ≡ kept (numbered s.asked q)
     pub ends : d.ends ≡ s.ends
-    pub history : d.history.0 ≡ s.history
+    pub past : IsPast given.recorded d.past s.history
     pub flows : (q : ℕ) → IsSized (flow_in (asked_at d.requests q))
     pub reads : AreRead given d.requests s
 
-  -- the driver stands for this state, whatever was handed out
+  -- the driver stands for this state, whatever was handed out; and it has the history, where that is recorded
+  abbrev pub IsDrivenAs : Bool → Driver F → State → Type 0
+  IsDrivenAs recorded = IsHanding (given_of recorded 0 [])
+
+  -- the driver stands for this state, whatever was handed out, with or without the history
   abbrev pub IsDriven : Driver F → State → Type 0
-  IsDriven = IsHanding nothing_handed
+  IsDriven = IsDrivenAs false
 
   -- the driver stands for some state: it was not given up
   abbrev pub HasRun : Driver F → Type 0
@@ -104,7 +109,11 @@ module _ {F : Type 0} where
 
   -- the same as Plays of an outcome without steps of the world, but that something may be handed out
   abbrev pub Becomes : Driver F → Driver F → (State → Outcome) → Type 0
-  Becomes = doing.Becomes IsDriven
+  Becomes old new f = (recorded : Bool) → doing.Becomes (IsDrivenAs recorded) old new f
+
+  -- this piece of request q was handed out, whatever was before
+  abbrev pub HandsPiece : Driver F → Driver F → ℕ → List ℕ → Type 0
+  HandsPiece old new q piece = (recorded : Bool) (s : State) (bytes : List ℕ) → IsHanding (given_of recorded q bytes) old s → IsHanding (given_of recorded q (bytes ++ piece)) new s
 
   -- some number or row after this outcome would not fit
   abbrev pub Overflows : Driver F → (State → Outcome) → Type 0
@@ -122,11 +131,11 @@ module _ {F : Type 0} where
   abbrev pub OverflowsStep : Driver F → Step AnyRow → Type 0
   OverflowsStep = doing.OverflowsStep IsDriven
 
-  -- request q was closed in the world, its end and its record stand last, and its lines are told where anybody hears them
+  -- request q was closed in the world, its end stands last, and so does its record where a history is kept, and its lines are told where anybody hears them
   pub record Finishes (heard : Bool) (old new : Driver F) (told : Told) (q : ℕ) (kind : Kind) (end : FlowEnd) : Type 0 where
     pub report : Report AnyRow
     pub closes : Steps any_join words old.world new.world report (step.Close q)
-    pub rest : new ≡ record old { world = new.world; ends = old.ends ++ (q, end) ∷ []; history = record { 0 = old.history.0 ++ record_of q end ∷ [] } }
+    pub rest : new ≡ record old { world = new.world; ends = old.ends ++ (q, end) ∷ []; past = with_records old.past (record_of q end ∷ []) }
     pub tells : told ≡ record { refused = None; words = Empty; lines = if heard then lines_of_end q kind end else [] }
 
   -- request q waits so

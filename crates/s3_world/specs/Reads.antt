@@ -23,14 +23,19 @@ use Rattle.store_model.specs.Acts.{end_of}
 use Rattle.store_model.specs.Gets.{object_given, is_get, gathered, found_by}
 use Rattle.s3_world.specs.declared.asked.Asked.{Asked}
 
--- bytes of an object that were handed out, and of which request
+-- what is known of a store beside its state: bytes of an object that were handed out, and of which request; and whether its history is recorded
 pub record Handed : Type 0 where
   pub request : ℕ
   pub bytes : List ℕ
+  pub recorded : Bool
+
+-- these bytes of request q were, and the history is recorded, or it isn't said whether it is
+abbrev pub given_of : Bool → ℕ → List ℕ → Handed
+given_of recorded q bytes = record { request = q; bytes = bytes; recorded = recorded }
 
 -- these bytes of request q were
 abbrev pub of : ℕ → List ℕ → Handed
-of q bytes = record { request = q; bytes = bytes }
+of q bytes = given_of false q bytes
 
 -- none were: no request has this number
 abbrev pub nothing_handed : Handed

@@ -1,5 +1,5 @@
 -- When the code's store stands for a state of the model, and what an act does to it.
-use Rattle.std.specs.Prelude.{◌≡◌, ◌<◌, ◌≤◌, ℕ, ⊤, Some, None, List, [], Result, Ok, Err, length}
+use Rattle.std.specs.Prelude.{◌≡◌, ◌<◌, ◌≤◌, ℕ, ⊤, Bool, true, false, Some, None, List, [], ◌++◌, Result, Ok, Err, length}
 use Rattle.crdt_rows.specs.declared.any_row.AnyRow.{AnyRow}
 use Rattle.crdt_rows.specs.AnyRow.{any_join}
 use Rattle.object_schema.specs.Schema.{words}
@@ -23,33 +23,50 @@ use Rattle.store_model.specs.Turns.{FitsOutcome}
 use Rattle.world_core.specs.Stands.{StandsFor}
 use Rattle.s3_world.specs.declared.world.S3World.{S3World}
 use Rattle.s3_world.specs.Driven.{known, kept, IsSized}
-use Rattle.s3_world.specs.Reads.{Handed, of, nothing_handed, asked_at, flow_in, AreRead}
+use Rattle.s3_world.specs.Past.{IsPast}
+use Rattle.s3_world.specs.Reads.{Handed, given_of, asked_at, flow_in, AreRead}
 use Rattle.s3_world.specs.Doing as doing
 pub use Rattle.s3_world.specs.Doing.{Tells}
 
--- the code's store is this state of the model: its driver is, and its buckets and size of blocks are the state's; and these bytes were handed out
+-- the code's store is this state of the model: its driver is, and its buckets and size of blocks are the state's; it has the history or nothing; and these bytes were handed out
 pub record Holds (given : Handed) (c : S3World) (s : State) : Type 0 where
   pub world : StandsFor any_join words c.driver.world s.world
   pub buckets : c.buckets ≡ s.buckets
   pub block : c.block ≡ s.block
   pub requests : (q : ℕ) → known (asked_at c.driver.requests q) ≡ kept (numbered s.asked q)
   pub ends : c.driver.ends ≡ s.ends
-  pub history : c.driver.history.0 ≡ s.history
+  pub past : IsPast given.recorded c.driver.past s.history
   pub sized : 0 < s.block
   pub flows : (q : ℕ) → IsSized (flow_in (asked_at c.driver.requests q))
   pub reads : AreRead given c.driver.requests s
 
--- the code's store is this state of the model, whatever was handed out
+-- the code's store is this state of the model, whatever was handed out; and it has the history, where that is recorded
+abbrev pub IsStoreAs : Bool → S3World → State → Type 0
+IsStoreAs recorded = Holds (given_of recorded 0 [])
+
+-- the code's store is this state of the model, whatever was handed out, with or without the history
 abbrev pub IsStore : S3World → State → Type 0
-IsStore = Holds nothing_handed
+IsStore = IsStoreAs false
+
+-- the code's store is this state of the model, and it has the history
+abbrev pub IsRecorded : S3World → State → Type 0
+IsRecorded = IsStoreAs true
+
+-- of request q just these bytes were handed out; and it has the history, where that is recorded
+abbrev pub IsGivingAs : Bool → S3World → State → ℕ → List ℕ → Type 0
+IsGivingAs recorded c s q bytes = Holds (given_of recorded q bytes) c s
 
 -- and of request q just these bytes were handed out
 abbrev pub IsGiving : S3World → State → ℕ → List ℕ → Type 0
-IsGiving c s q bytes = Holds (of q bytes) c s
+IsGiving = IsGivingAs false
 
 -- the store stands for some state: it was not given up
 abbrev pub HasStore : S3World → Type 0
 HasStore c = (s : State) × IsStore c s
+
+-- the same, and it has the history
+abbrev pub HasRecorded : S3World → Type 0
+HasRecorded c = (s : State) × IsRecorded c s
 
 -- whatever state the store stands for, this act may happen in it
 abbrev pub Allows : S3World → Act → Type 0
@@ -78,21 +95,13 @@ IsQuiet (step.Expire q) = ⊥
 IsQuiet (step.Restart n) = ⊥
 IsQuiet _ = ⊤
 
--- the store stands for the state after this outcome, and tells it; after each of its steps every number fits
-abbrev pub Does : S3World → Told → State → Outcome → Type 0
-Does = doing.Does IsStore
-
--- from old to new the store did what this outcome says, whatever state old stood for, and tells it
+-- from old to new the store did what this outcome says, whatever state old stood for, and tells it; where the history was recorded it still is
 abbrev pub Plays : S3World → S3World → Told → (State → Outcome) → Type 0
-Plays = doing.Plays IsStore
+Plays old new told f = (recorded : Bool) → doing.Plays (IsStoreAs recorded) old new told f
 
 -- the same of an outcome without steps of the world
 abbrev pub Becomes : S3World → S3World → (State → Outcome) → Type 0
-Becomes = doing.Becomes IsStore
-
--- the same as Plays, of the states with a property
-abbrev pub PlaysIf : (State → Type 0) → S3World → S3World → Told → (State → Outcome) → Type 0
-PlaysIf = doing.PlaysIf IsStore
+Becomes old new f = (recorded : Bool) → doing.Becomes (IsStoreAs recorded) old new f
 
 -- some number or row after this outcome would not fit
 abbrev pub Overflows : S3World → (State → Outcome) → Type 0
@@ -102,17 +111,13 @@ Overflows = doing.Overflows IsStore
 abbrev pub OverflowsIf : (State → Type 0) → S3World → (State → Outcome) → Type 0
 OverflowsIf = doing.OverflowsIf IsStore
 
--- whatever state it stood for, it did this step, which was given something lawful
-abbrev pub PlaysStep : S3World → S3World → Told → Step AnyRow → Type 0
-PlaysStep = doing.PlaysStep IsStore
-
 -- whatever state it stood for, this step would not fit
 abbrev pub OverflowsStep : S3World → Step AnyRow → Type 0
 OverflowsStep = doing.OverflowsStep IsStore
 
 -- from old to new the store did what this outcome says, whatever state old stood for, and tells nothing
 abbrev pub Carries : S3World → S3World → (State → Outcome) → Type 0
-Carries = doing.Carries IsStore
+Carries old new f = (recorded : Bool) → doing.Carries (IsStoreAs recorded) old new f
 
 -- the same, and what was handed out of a request stays so
 abbrev pub Keeps : S3World → S3World → (State → Outcome) → Type 0
@@ -137,11 +142,11 @@ Answers (Err reason) o = o.refused ≡ Some reason
 
 -- a request was begun at a node, or refused, whatever state old stood for
 abbrev pub Starts : S3World → S3World → Result ℕ (Refusal Cut) → ℕ → Order → Type 0
-Starts old new answer node order = ties.Steps IsStore old (λ s. let o = acted s (asks node order) in IsStore new o.state × FitAll any_join words s.world o.moves × Answers answer o)
+Starts old new answer node order = (recorded : Bool) → ties.Steps (IsStoreAs recorded) old (λ s. let o = acted s (asks node order) in IsStoreAs recorded new o.state × FitAll any_join words s.world o.moves × Answers answer o)
 
 -- of a request that was begun nothing was handed out
 abbrev pub GivesNone : S3World → S3World → Result ℕ (Refusal Cut) → ℕ → Order → Type 0
-GivesNone old new (Ok number) node order = ties.Steps IsStore old (λ s. IsGiving new (acted s (asks node order)).state number [])
+GivesNone old new (Ok number) node order = (recorded : Bool) → ties.Steps (IsStoreAs recorded) old (λ s. IsGivingAs recorded new (acted s (asks node order)).state number [])
 GivesNone old new (Err reason) node order = ⊤
 
 -- the code did this event, which was given something lawful
@@ -150,7 +155,11 @@ DoesEvent = doing.DoesEvent IsStore
 
 -- whatever state it stood for, it did this event
 abbrev pub PlaysEvent : S3World → S3World → Told → Event → Type 0
-PlaysEvent = doing.PlaysEvent IsStore
+PlaysEvent old new told event = (recorded : Bool) → doing.PlaysEvent (IsStoreAs recorded) old new told event
+
+-- this piece of request q was handed out, whatever was before
+abbrev pub HandsPiece : S3World → S3World → ℕ → List ℕ → Type 0
+HandsPiece old new q piece = (recorded : Bool) (s : State) (bytes : List ℕ) → IsGivingAs recorded old s q bytes → IsGivingAs recorded new s q (bytes ++ piece)
 
 -- and what was handed out of a request stays so
 abbrev pub KeepsIn : S3World → S3World → Told → Event → Type 0

@@ -10,8 +10,6 @@ ghost use Rattle.cluster_machine.specs.declared.step.Step.TheVariants as step;
 ghost use Rattle.cluster_machine.specs.Blocks.{BringsBlocks};
 ghost use Rattle.cluster_machine.specs.Keeping.{IsShort};
 ghost use Rattle.cluster_machine.specs.World.{numbered};
-ghost use Rattle.history_model.specs.declared.record.Cause.TheVariants.{Restarted};
-ghost use Rattle.history_model.specs.declared.record.Record.TheVariants.{Ended as HasEnded};
 ghost use Rattle.world_core.specs.Stands.{ended, IsWorld, Overflows as WorldOverflows};
 ghost use Rattle.store_model.specs.Run.{State, start as nothing_yet, opened, follow, goes_on, delivers, drains, need_at, feeding, keeping, giving_up};
 ghost use Rattle.store_model.specs.Acts.{acted, takes, end_of, without_end};
@@ -19,16 +17,17 @@ ghost use Rattle.store_model.specs.Gets.{found_by, body_of};
 ghost use Rattle.s3_world.specs.Driven.{place_in, needed_of};
 ghost use Rattle.s3_world.specs.Reads.{Handed, IsLeft, HasAll, IsNeeded, Writes, asked_at, blocks_in, with_first, of};
 
-use crate::answers::{lines_of, record_of};
+use crate::answers::lines_of;
 use crate::asked::Asked;
-use crate::orders::{began_with, kind_of};
+use crate::orders::kind_of;
+use crate::past::Past;
 use block_bytes::Block;
 use cluster_machine::applied::Line;
 use cluster_machine::{Step, Words};
 use crdt_core::{List, Memory};
 use crdt_rows::{AnyRow, Meta, Version};
 use flow_model::{Flow, FlowEnd, FlowStep, Flows, Order};
-use history_model::{Cause, History, Kind, Record};
+use history_model::Kind;
 use object_bytes::Pieces;
 use object_schema::S3Schema;
 use std::alloc::Global;
@@ -37,13 +36,13 @@ use store_model::Told;
 use wire_messages::{Phase, PhaseEnd};
 use world_core::World;
 
-/// A cluster with its requests, each with what it waits for, and their history. How a request begins and goes on is what
-/// the flows say. Steps of the world that concern no request are taken on `world` itself.
+/// A cluster with its requests, each with what it waits for, and their past. How a request begins and goes on is what the
+/// flows say. Steps of the world that concern no request are taken on `world` itself.
 #[derive(Drop)]
 pub struct Driver<F: Flows> {
     pub world: World<S3Schema>,
-    /// The records of all requests, the oldest first.
-    pub history: History,
+    /// The records of all requests, or none.
+    pub past: Past,
     /// Those that aren't over, by their numbers: they wait for something, or what they read waits to be taken.
     requests: BTreeMap<u64, Asked>,
     /// How requests ended by themselves, until that is taken.
@@ -92,32 +91,18 @@ pub fn accepted(lines: List<Line>) -> Told
     }
 }
 
-// The records of requests that a restart lost go to the end of the history.
-fn push_lost(history: &mut List<Record>, lost: &[u64]) -> Result<(), Memory>
-    ensures ok { OnOk result (history.new ≡ history.old ++ map (λ q. HasEnded q Restarted) lost.now) }
-    ensures want { OnlyWant result }
-{
-    for request in lost {
-        history.push(Record::Ended {
-            request: *request,
-            cause: Cause::Restarted,
-        })?;
-    }
-    Ok(())
-}
-
 impl<F: Flows> Driver<F> {
     ghost use Rattle.flow_model.specs.declared.flow.Flow.{Flow};
-    ghost use Rattle.s3_world.specs.Driven.{IsDriven, IsHanding, HasRun, IsReady, Becomes, Plays, PlaysHeard, PlaysIf, PlaysStep, Overflows, OverflowsIf, OverflowsStep, Finishes, Begins, TakesFlow, Waits};
+    ghost use Rattle.s3_world.specs.Driven.{IsDriven, IsDrivenAs, IsHanding, HandsPiece, HasRun, IsReady, Becomes, Plays, PlaysHeard, PlaysIf, PlaysStep, Overflows, OverflowsIf, OverflowsStep, Finishes, Begins, TakesFlow, Waits};
 
-    /// Nothing has happened.
-    pub fn new(alloc: Global, flows: F) -> Result<Driver<F>, Memory>
-        ensures starts { IfOk result (λ driver. IsDriven driver nothing_yet) }
+    /// Nothing has happened. A history is kept from here on, or none.
+    pub fn new(alloc: Global, flows: F, is_kept: bool) -> Result<Driver<F>, Memory>
+        ensures starts { IfOk result (λ driver. IsDrivenAs is_kept driver nothing_yet) }
         ensures want { OnlyWant result }
     {
         Ok(Driver {
             world: World::new(alloc)?,
-            history: History(List::new(alloc)),
+            past: Past::new(alloc, is_kept),
             requests: BTreeMap::new(alloc),
             ends: List::new(alloc),
             flows,
@@ -147,7 +132,7 @@ impl<F: Flows> Driver<F> {
 
     /// Hands out the first block of a get that came and wasn't handed out. None where there is none. Takes no memory.
     pub fn take_piece(&mut self, request: u64) -> Option<Block>
-        ensures piece { IfSome result (λ piece. (s : State) (bytes : Listed ℕ) → IsHanding (of request bytes) self.old s → IsHanding (of request (bytes ++ piece)) self.new s) }
+        ensures piece { IfSome result (λ piece. HandsPiece self.old self.new request piece) }
         ensures none { IfNone result (self.new ≡ self.old) }
         ensures all { IfNone result ((s : State) (bytes : Listed ℕ) → IsHanding (of request bytes) self.old s → HasAll s request bytes) }
     {
@@ -194,11 +179,10 @@ impl<F: Flows> Driver<F> {
         let _ = self.world.step(Step::Open(node))?;
         let number = self.world.requests();
         let kind = kind_of(&order);
-        let began = began_with(number, node, &order)?;
+        self.past.began(number, node, &order)?;
         let (flow, phase) = self.flows.start(self.alloc, order, number, block)?;
         let report = self.world.step(Step::Phase(number, phase))?;
         let _ = self.requests.insert(number, Asked::new(node, kind, flow))?;
-        self.history.0.push(began)?;
         Ok(Told {
             refused: None,
             words: Words::One(number),
@@ -277,10 +261,7 @@ impl<F: Flows> Driver<F> {
     {
         let report = self.world.step(Step::Expire(request))?;
         if report.refused.is_none() {
-            self.history.0.push(Record::Ended {
-                request,
-                cause: Cause::Expired,
-            })?;
+            self.past.expired(request)?;
         }
         Ok(Told {
             refused: report.refused,
@@ -296,7 +277,7 @@ impl<F: Flows> Driver<F> {
         ensures causes { WantOr result (OverflowsStep self.old (step.Restart node)) }
     {
         let report = self.world.step(Step::Restart(node))?;
-        push_lost(&mut self.history.0, report.lost.as_slice())?;
+        self.past.lost(report.lost.as_slice())?;
         Ok(Told {
             refused: report.refused,
             words: report.words,
@@ -317,8 +298,7 @@ impl<F: Flows> Driver<F> {
         ensures causes { WantOr result (WorldOverflows any_join words self.old.world (step.Close request)) }
     {
         let _ = self.world.step(Step::Close(request))?;
-        let record = record_of(self.alloc, request, &end)?;
-        self.history.0.push(record)?;
+        self.past.finished(self.alloc, request, &end)?;
         let lines = if heard {
             lines_of(self.alloc, request, kind, &end)?
         } else {

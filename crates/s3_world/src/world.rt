@@ -1,5 +1,5 @@
 //! The state of a run as code, and its acts: the driver's instance for objects, with buckets and the size of blocks.
-ghost use Rattle.std.specs.Prelude.{◌≡◌, [], ◌∷◌, ◌++◌, ◌≤◌, length, option_map, true, OnOk, OnErr, IfOk, IfSome, IfNone, Some, None, IsTrue, is_some, ℕ, List as Listed};
+ghost use Rattle.std.specs.Prelude.{◌≡◌, ◌⊎◌, [], ◌∷◌, ◌++◌, ◌≤◌, length, option_map, true, OnOk, OnErr, IfOk, IfSome, IfNone, Some, None, IsTrue, is_some, ℕ, List as Listed};
 ghost use Rattle.std.specs.Option.{option_copied};
 ghost use Rattle.crdt_core.specs.Outcomes.{OnlyWant, WantOr};
 ghost use Rattle.blake2_hash.specs.Blake2b.{blake2b};
@@ -67,15 +67,32 @@ fn copy_role(role: &Option<(Zone, RoleKind)>) -> Result<Option<(Zone, RoleKind)>
 }
 
 impl S3World {
-    ghost use Rattle.s3_world.specs.Stands.{IsStore, IsGiving, Holds, HasStore, Allows, Becomes, Carries, Keeps, KeepsTold, KeepsIf, KeepsStep, KeepsIn, Starts, GivesNone, Plays, PlaysIf, PlaysStep, PlaysEvent, Overflows, OverflowsIf, OverflowsStep, OverflowsEvent};
+    ghost use Rattle.s3_world.specs.Stands.{IsStore, IsStoreAs, IsRecorded, IsGiving, HandsPiece, HasStore, Allows, Becomes, Carries, Keeps, KeepsTold, KeepsIf, KeepsStep, KeepsIn, Starts, GivesNone, Plays, PlaysEvent, Overflows, OverflowsIf, OverflowsStep, OverflowsEvent};
 
-    /// Nothing has happened.
+    /// Nothing has happened. The history of all requests is kept from here on.
     pub fn new(alloc: Global) -> Result<S3World, Memory>
+        ensures starts { IfOk result (λ store. IsStore store nothing_yet) }
+        ensures recorded { IfOk result (λ store. IsRecorded store nothing_yet) }
+        ensures want { OnlyWant result }
+    {
+        S3World::started(alloc, true)
+    }
+
+    /// Nothing has happened. No history is kept: a request that is over leaves nothing.
+    pub fn without_history(alloc: Global) -> Result<S3World, Memory>
         ensures starts { IfOk result (λ store. IsStore store nothing_yet) }
         ensures want { OnlyWant result }
     {
+        S3World::started(alloc, false)
+    }
+
+    // Nothing has happened. A history is kept from here on, or none.
+    fn started(alloc: Global, is_kept: bool) -> Result<S3World, Memory>
+        ensures starts { IfOk result (λ store. IsStoreAs is_kept store nothing_yet) }
+        ensures want { OnlyWant result }
+    {
         Ok(S3World {
-            driver: Driver::new(alloc, ObjectFlows)?,
+            driver: Driver::new(alloc, ObjectFlows, is_kept)?,
             buckets: Names::new(alloc),
             block: BLOCK_SIZE,
             alloc,
@@ -133,11 +150,12 @@ impl S3World {
         self.driver.world.node_line(node)
     }
 
-    /// The records of all requests, the oldest first.
+    /// The records of all requests, the oldest first, where a history is kept; else none.
     pub fn history(&self) -> &History
-        ensures { (s : State) → IsStore self.now s → result.now.0 ≡ s.history }
+        ensures recorded { (s : State) → IsRecorded self.now s → result.now.0 ≡ s.history }
+        ensures all_or_none { (s : State) → IsStore self.now s → (result.now.0 ≡ s.history) ⊎ (result.now.0 ≡ []) }
     {
-        &self.driver.history
+        self.driver.past.history()
     }
 
     /// Puts a first layout into the views of its nodes, all or none; from then on version 1 counts as applied.
@@ -246,7 +264,7 @@ impl S3World {
 
     /// Hands out the first block of a get that came and wasn't handed out. None where there is none. Takes no memory.
     pub fn take_piece(&mut self, request: u64) -> Option<Block>
-        ensures piece { IfSome result (λ piece. (s : State) (bytes : Listed ℕ) → IsGiving self.old s request bytes → IsGiving self.new s request (bytes ++ piece)) }
+        ensures piece { IfSome result (λ piece. HandsPiece self.old self.new request piece) }
         ensures none { IfNone result (self.new ≡ self.old) }
         ensures all { IfNone result ((s : State) (bytes : Listed ℕ) → IsGiving self.old s request bytes → HasAll s request bytes) }
     {

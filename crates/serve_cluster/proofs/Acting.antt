@@ -66,7 +66,7 @@ pub store_kept : (old new : S3World) (xs : List Act) → HasStore old → KeepsA
 store_kept old new xs h f = store_after old new xs h (f nothing_handed)
 
 pub taken_store : (old new : S3World) (q : ℕ) → HasStore old → Becomes old new (λ s. acted s (takes q)) → HasStore new
-taken_store old new q h f = ((acted h.0 (takes q)).state, f h.0 h.1)
+taken_store old new q h f = ((acted h.0 (takes q)).state, f false h.0 h.1)
 
 -- ---- members that work, one after the other
 
@@ -170,13 +170,13 @@ pub does_event : (new : S3World) (told : Told) (s : State) (event : Event) (h : 
 does_event new told s event h = record { lawful = (h.lawful, tt); fit = (h.does.fits, tt); stands = h.does.stands }
 
 pub ticked : (old new : S3World) (told : Told) (ms : ℕ) → PlaysEvent old new told (Event.Tick ms) → DoesActs old new (moves (plainly (Tick ms)) ∷ [])
-ticked old new told ms h = λ s st. does_event new told s (Event.Tick ms) (h s st)
+ticked old new told ms h = λ s st. does_event new told s (Event.Tick ms) (h false s st)
 
 pub worked : (old new : S3World) (told : Told) (n : ℕ) → KeepsIn old new told (Event.Work n) → KeepsActs old new (works (n ∷ []))
 worked old new told n h = λ given s st. let x = h given s st in record { lawful = (x.lawful, tt); fit = (x.does.fits, tt); stands = x.does.stands }
 
 pub expired : (old new : S3World) (told : Told) (q : ℕ) → PlaysEvent old new told (Event.Expire q) → DoesActs old new (expiry q None)
-expired old new told q h = λ s st. does_event new told s (Event.Expire q) (h s st)
+expired old new told q h = λ s st. does_event new told s (Event.Expire q) (h false s st)
 
 pub expired_open : (old new : S3World) (told : Told) (q : ℕ) (end : Option FlowEnd) → is_some end ≡ false → PlaysEvent old new told (Event.Expire q) → DoesActs old new (expiry q end)
 expired_open old new told q None e h = expired old new told q h
@@ -223,10 +223,10 @@ pub ask_lacks : (old : S3World) (n : ℕ) (order : Order) → HasKey order → O
 ask_lacks old n order keyed h = act_lacks old (asks n order) (λ s st. keyed) h
 
 taken : (old new : S3World) (q : ℕ) → Becomes old new (λ s. acted s (takes q)) → DoesActs old new (takes q ∷ [])
-taken old new q h = λ s st. record { lawful = (tt, tt); fit = (tt, tt); stands = h s st }
+taken old new q h = λ s st. record { lawful = (tt, tt); fit = (tt, tt); stands = h false s st }
 
 pub forgot : (old new : S3World) → Becomes old new (λ s. acted s forgets) → DoesActs old new (forgets ∷ [])
-forgot old new h = λ s st. record { lawful = (tt, tt); fit = (tt, tt); stands = h s st }
+forgot old new h = λ s st. record { lawful = (tt, tt); fit = (tt, tt); stands = h false s st }
 
 -- an end is there whatever was handed out
 expiry_of : (q : ℕ) (given : List ℕ) (end : Option FlowEnd) → expiry q (with_first given end) ≡ expiry q end
@@ -370,7 +370,7 @@ module _ (members : List ℕ) (s : State) (ms : ℕ) (order : Order) where
   pub asked : (mid new : S3World) (answer : Result ℕ (Refusal Cut)) → HasKey order → DoneActs mid s (moves (plainly (Tick ms)) ∷ []) → Starts mid new answer (asker members) order → DoneActs new s (acts_to_ask members ms order)
   asked mid new answer keyed a h =
       let t = (acted s (moves (plainly (Tick ms)))).state in
-      let x = h t a.stands in
+      let x = h false t a.stands in
       record { lawful = (a.lawful.0, (keyed, tt)); fit = (a.fit.0, (x.1, tt)); stands = x.0 }
 
 -- the first act of a request has no room: its time goes on

@@ -1,5 +1,5 @@
 -- One order asked and carried out, from what the code's cluster stood for.
-use Rattle.std.proofs.Common.{◌≡◌, ℕ, ◌-◌, max, List, [], ◌∷◌, ◌++◌, Option, None, Some, Result, Ok, Err, IfOk, ◌⊎◌, ◌∙◌, refl, sym, ap, subst}
+use Rattle.std.proofs.Common.{◌≡◌, ℕ, ◌-◌, max, List, [], ◌∷◌, ◌++◌, Option, None, Some, Result, Ok, Err, IfOk, ◌⊎◌, ◌∙◌, false, refl, sym, ap, subst}
 use Rattle.layout_roles.specs.declared.cut.Cut.{Cut}
 use Rattle.crdt_core.specs.Outcomes.{WantOr}
 use Rattle.crdt_core.specs.declared.memory.Memory.{Memory}
@@ -59,8 +59,8 @@ number_of (Err reason) = None
 
 numbered_so : (mid new : S3World) (answer : Result ℕ (Refusal Cut)) (n : ℕ) (order : Order) (s : State) → IsStore mid s → StartedSo mid new answer n order →
     IsNumber (number_of answer) (acted s (asks n order)) × GivesNothing new (acted s (asks n order)).state (number_of answer)
-numbered_so mid new (Ok q) n order s st h = ((h.0 s st).2, h.1 s st)
-numbered_so mid new (Err reason) n order s st h = ((reason, (h.0 s st).2), tt)
+numbered_so mid new (Ok q) n order s st h = ((h.0 false s st).2, h.1 false s st)
+numbered_so mid new (Err reason) n order s st h = ((reason, (h.0 false s st).2), tt)
 
 module _ (old : Cluster) (time : ℕ) (order : Order) (ms last : ℕ) (ms_is : ms ≡ time - old.ticked) (last_is : last ≡ max old.ticked time) (keyed : HasKey order) (mid : S3World) (ticks : DoesActs old.world mid (moves (plainly (Tick ms)) ∷ [])) where
   -- the code's cluster once it was asked

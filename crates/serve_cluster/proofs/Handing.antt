@@ -21,7 +21,7 @@ some_given c s q h =
         block = h.block;
         requests = h.requests;
         ends = h.ends;
-        history = h.history;
+        past = h.past;
         sized = h.sized;
         flows = h.flows;
         reads = record { found = h.reads.found; left = h.reads.left; handed = left.1; reading = h.reads.reading; over = h.reads.over; seen = h.reads.seen; count = h.reads.count };

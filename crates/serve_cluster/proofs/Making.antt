@@ -1,5 +1,5 @@
 -- A change, one part after the other, from what the code's world stood for.
-use Rattle.std.proofs.Common.{◌≡◌, ℕ, List, [], ◌∷◌, ◌++◌, Result, Ok, Err, OnOk, sym, ◌∙◌, ap, subst, append_assoc}
+use Rattle.std.proofs.Common.{◌≡◌, ℕ, List, [], ◌∷◌, ◌++◌, Result, Ok, Err, OnOk, false, sym, ◌∙◌, ap, subst, append_assoc}
 use Rattle.crdt_core.specs.declared.memory.Memory.{Memory}
 use Rattle.layout_roles.specs.declared.roles.Roles.{Roles}
 use Rattle.cluster_machine.specs.declared.applied.Applied.{Applied}
@@ -38,10 +38,10 @@ staged_lies c s st within = lies_so 0 s.world.roles (subst (Ascends 0) st.world.
 
 -- an apply is the act that it is
 pub applies_so : (old new : S3World) (told : Told) (node : ℕ) (shown : Applied) → Plays old new told (λ s. acted s (moves (applying s.world node shown))) → Applies old new node shown []
-applies_so old new told node shown h = λ s st is. let d = h s st in record { lawful = ((tt, tt, given_lawful s.world node shown is), tt); fit = (d.fits, tt); stands = d.stands }
+applies_so old new told node shown h = λ s st is. let d = h false s st in record { lawful = ((tt, tt, given_lawful s.world node shown is), tt); fit = (d.fits, tt); stands = d.stands }
 
 pub applied_store : (old new : S3World) (told : Told) (node : ℕ) (shown : Applied) → HasStore old → Plays old new told (λ s. acted s (moves (applying s.world node shown))) → HasStore new
-applied_store old new told node shown h f = ((acted h.0 (moves (applying h.0.world node shown))).state, (f h.0 h.1).stands)
+applied_store old new told node shown h f = ((acted h.0 (moves (applying h.0.world node shown))).state, (f false h.0 h.1).stands)
 
 -- and then further acts are done
 pub applies_more : (old mid new : S3World) (node : ℕ) (shown : Applied) (acts : List Act) → Applies old mid node shown [] → DoesActs mid new acts → Applies old new node shown acts

@@ -6,13 +6,13 @@ use Rattle.store_model.specs.Run.{State}
 use Rattle.store_model.specs.Acts.{Act, drain, acted, after_acts, end_of, all_messages}
 use Rattle.s3_world.specs.declared.world.S3World.{S3World}
 use Rattle.s3_world.specs.Reads.{HasAll}
-use Rattle.s3_world.specs.Stands.{IsGiving, HasStore, Overflows}
+use Rattle.s3_world.specs.Stands.{IsGiving, HandsPiece, HasStore, Overflows}
 use Rattle.s3_world.proofs.Storing.{as_store}
 use Rattle.serve_model.specs.Stores.{Given}
 use Rattle.serve_model.specs.Clusters.{delivered as all_delivered, round, acts_to_end, acts_past_end, acts_opened, given_by, ActLacksRoom}
 use Rattle.serve_loop.specs.declared.storage.Got.{Got}
 use Rattle.serve_loop.specs.declared.storage.Got.TheVariants.{Found, Piece, End}
-use Rattle.serve_loop.specs.Gets.{GaveAll, GoesOn}
+use Rattle.serve_loop.specs.Gets.{GaveAll, GoesOn, with_piece, bytes_of}
 use Rattle.serve_cluster.specs.declared.getting.Getting.{Getting}
 use Rattle.serve_cluster.specs.Acting.{KeepsActs, LacksRoom, IsDrained, TakesEnd}
 use Rattle.serve_cluster.specs.Giving.{HasGiven, acts_since, IsGetting, HasGot, IsDrainedGet, HasDrainedGet, GivesMore, HandsOut, Delivers, LacksDrain, GivesOrEnds, GivesNext, LacksGetting, left_of}
@@ -34,6 +34,20 @@ handed_store old mid g h hands x = let acts = acts_since x.0 g in given_store mi
 pub hands_nothing : (old new : S3World) (g : Getting) → g.told ≡ true → new ≡ old → ((t : State) (bytes : List ℕ) → IsGiving old t g.request bytes → HasAll t g.request bytes) → HandsOut old new g g None
 hands_nothing old new g told same f = λ acts s so_far h.
     (subst (λ w. HasGiven w g.request g.told acts s so_far) (sym same) h, hands_none old g.request acts s so_far f (subst (λ b. HasGiven old g.request b acts s so_far) told h))
+
+pub hands_piece : (old new : S3World) (g : Getting) (piece : List ℕ) → g.told ≡ true → HandsPiece old new g.request piece → HandsOut old new g g (Some (Piece piece))
+hands_piece old new g piece told hands acts s so_far h =
+    let had : HasGiven old g.request true acts s so_far = subst (λ b. HasGiven old g.request b acts s so_far) told h in
+    let was : Given = had.told_is.0 in
+    let t : State = after_acts s acts in
+    let stands : IsGiving old t g.request was.bytes = subst (λ so. IsGiving old t g.request (bytes_of so)) had.told_is.1 had.led.stands in
+    let now : HasGiven new g.request true acts s (Some (with_piece was piece)) = record {
+      opened = had.opened;
+      leaves = had.leaves;
+      led = record { lawful = had.led.lawful; fit = had.led.fit; stands = hands false t was.bytes stands };
+      told_is = (with_piece was piece, (refl, had.told_is.2));
+    } in
+    (was, had.told_is.1, subst (λ b. HasGiven new g.request b acts s (Some (with_piece was piece))) (sym told) now)
 
 -- ---- after the rounds of work
 

@@ -67,13 +67,13 @@ fn cut(world: &mut S3World, size: u32) -> Result<(), Memory>
     Ok(())
 }
 
-/// A world with buckets and a size of blocks, in which nothing else has happened.
+/// A world with buckets and a size of blocks, in which nothing else has happened. It keeps no history.
 fn prepared(alloc: Global, buckets: &[Bytes], size: u32) -> Result<S3World, Memory>
     requires sized { 1 ≤ size }
     ensures stands { IfOk result (λ world. IsStore world (after_acts start (preparing buckets.now size))) }
     ensures want { OnlyWant result }
 {
-    let mut world = S3World::new(alloc)?;
+    let mut world = S3World::without_history(alloc)?;
     add_buckets(&mut world, buckets)?;
     cut(&mut world, size)?;
     Ok(world)

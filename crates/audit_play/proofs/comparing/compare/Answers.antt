@@ -7,7 +7,7 @@ use Rattle.audit_play.proofs.Ending.{following_none, only_want, are_greatest, is
 use Rattle.audit_play.proofs.comparing.compare.Goals as goal
 
 pub loop-next-init : goal.loop-next-init
-loop-next-init c = following_none c.args.events.now c.args.text.now c.args.sheets.now c.in_ok-store.store c.in_ok-store.ensures.starts
+loop-next-init c = following_none c.args.events.now c.args.text.now c.args.sheets.now c.in_ok-store.store c.in_ok-store.ensures.recorded
 
 pub turned-requires-clause-stands : goal.turned-requires-clause-stands
 turned-requires-clause-stands c = has_store c.args.events.now c.args.text.now c.args.sheets.now c.requires c.loop-next.store c.loop-next.place c.loop-next.next-index c.loop-next.invariant

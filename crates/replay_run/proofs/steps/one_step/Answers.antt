@@ -1,9 +1,13 @@
 use Rattle.std.proofs.Common.{arith}
 use Rattle.s3_world.specs.Stands.{OverflowsEvent}
+use Rattle.s3_world.proofs.Storing.{has_store}
 use Rattle.replay_run.specs.Turning.{StepStops}
 use Rattle.replay_run.proofs.Causes.{stopped}
 use Rattle.replay_run.proofs.Stepping.{step_taken, step_sends, step_lacks}
 use Rattle.replay_run.proofs.steps.one_step.Goals as goal
+
+pub step-requires-clause-stands : goal.step-requires-clause-stands
+step-requires-clause-stands c = has_store c.args.store.now c.requires.stands
 
 pub returns-in_err-told-clause-causes : goal.returns-in_err-told-clause-causes
 returns-in_err-told-clause-causes c =

@@ -10,7 +10,7 @@ returns-in_err-store-clause-halts g c =
     (part_none c.args.account (g.O.Sink.written c.args.output.now) c.args.events.now) c.in_err-store.ensures.want
 
 pub loop-next-init : goal.loop-next-init
-loop-next-init g c = record { running = running_none c.args.account c.in_ok-store.store (g.O.Sink.written c.args.output.now) c.args.events.now c.in_ok-store.ensures.starts; steady = refl }
+loop-next-init g c = record { running = running_none c.args.account c.in_ok-store.store (g.O.Sink.written c.args.output.now) c.args.events.now c.in_ok-store.ensures.recorded; steady = refl }
 
 pub event_text-requires-clause-stands : goal.event_text-requires-clause-stands
 event_text-requires-clause-stands g c =

@@ -1,3 +1,4 @@
+use Rattle.std.proofs.Common.{false}
 use Rattle.serve_run.proofs.Opening.{unused, is_opened}
 use Rattle.serve_run.proofs.start.installed.Goals as goal
 
@@ -7,4 +8,4 @@ install-requires-clause-unused c = unused c.in_ok-world.world c.as_slice.result.
 pub returns-clause-opened : goal.returns-clause-opened
 returns-clause-opened c =
     is_opened c.in_ok-world.world c.install.new.self c.args.plan.now c.in_ok-first.first c.in_ok-first.ensures.is_of c.in_ok-first.ensures.first
-    (rw (c.as_slice.ensures, c.list.ensures) at c.in_ok-world.ensures.stands) c.in_ok-install.ensures.installed
+    (rw (c.as_slice.ensures, c.list.ensures) at c.in_ok-world.ensures.stands) (c.in_ok-install.ensures.installed false)

@@ -26,4 +26,4 @@ returns-clause-plays g c =
     _ c.in_ok-report.report _ c.in_ok-report.ensures.steps refl
     (subst (λ a. Writes c.args.self.now.requests c.insert.new.self c.requests-number.result (Some a)) (c.new.ensures ∙ ap (λ kind. record { node = c.args.node; kind = kind; flow = Some c.in_ok-flow.flow; found = None; blocks = None }) c.kind_of-kind.ensures)
     (updated c.args.self.now.requests c.insert.new.self c.requests-number.result (Some c.new.result) c.in_ok-insert.ensures.updates))
-    (c.in_ok-push.ensures.ok ∙ ap (λ r. c.args.self.now.history.0 ++ r ∷ []) c.in_ok-began.ensures.is) refl refl refl
+    c.in_ok-began.ensures.ok refl refl refl
