@@ -41,7 +41,8 @@ use Rattle.machine_reads.specs.Places.{Place, keys, at_place}
 use Rattle.machine_reads.specs.Tie.{Issued, Begun, a_round, a_repair, both, State, HasBase, GivesNext, HadThere, IsConfirmed, Means, IsRound, IsPart, IsWalk, IsNode, IsTied}
 use Rattle.machine_reads.proofs.Growth.{Grown, SameAt, mending_stays, round_in_stays}
 use Rattle.machine_reads.proofs.Leads.{Issues, rounded, rounded_here, rounded_other, over_issues, Act, grown, Leads, by_node}
-use Rattle.machine_reads.proofs.Sees.{contains_among, among_contains, newest_same, read_same, read_set_same, set_at_same}
+use Rattle.machine_laws.proofs.Given.{contains_among, among_contains}
+use Rattle.machine_reads.proofs.Sees.{newest_same, read_same, read_set_same, set_at_same}
 use Rattle.machine_reads.proofs.Called.{quietly}
 use Rattle.machine_reads.proofs.Storing.{none_is}
 use Rattle.machine_reads.proofs.Rounds.{shown_at, placed_in, pushing, pushing_happens, pushing_same, push_of, pushing_has, finish_may, complete_may}

@@ -127,7 +127,7 @@ module _ {R L : Type 0} (join : R → R → R) (s : Words R) (k : Layouts L) (pa
             let test = all_in (λ part. two_of part.set (confirmed_for part.partition x.confirmed)) x.parts has.part complete has.is_there in
             let set_same : has.part.set ≡ P.control.set p.control x.target part = has.set_is ∙ up.sets n x.target part known in
             let test' : two_of (P.control.set p.control x.target part) (confirmed_for part x.confirmed) ≡ true = ap (λ t. two_of t (confirmed_for part x.confirmed)) (sym set_same) ∙ (ap (λ i. two_of has.part.set (confirmed_for i x.confirmed)) (sym has.partition_is) ∙ test) in
-            let two = two_at join s k partitions H some w p g sound t.control x.target part (confirmed_for part x.confirmed) test' in
+            let two = two_at join s k partitions H w p t.control x.target part (confirmed_for part x.confirmed) test' in
             elim (two_or {G = IsAllGone join s k partitions H q h m.round part} (P.control.set p.control x.target part) (λ i. is_among i (confirmed_for part x.confirmed) ≡ true) (HasPushed q m.round part) (λ i c e. confirmed_is q h m.round part i x.confirmed m.confirmed e) two) [
               | inl pushed ↦ inr (subst (λ i. Rattle.plane_model.specs.Sets.Two (P.control.set q.control i part) (HasPushed q m.round part)) (sym m.target)
                   (subst (λ set. Rattle.plane_model.specs.Sets.Two set (HasPushed q m.round part)) (sym (up.sets n x.target part known)) pushed))

@@ -30,7 +30,8 @@ use Rattle.machine_reads.proofs.Placed.{kept_at_place, none_at_place}
 use Rattle.machine_reads.proofs.Growth.{same_at, calls_stay, round_in_stays, node_stays, SameOf, mending_stays}
 use Rattle.machine_reads.proofs.Logs.{moved_control, moved_log, moved_kept, dropping, dropping_happens, dropping_same, dropping_others, dropping_keeps, dropping_none}
 use Rattle.machine_reads.proofs.Leads.{Issues, issues_self, Act, laws_of, grown, Leads, Less, only_control, by_node, less_self, at_one}
-use Rattle.machine_reads.proofs.Sets.{not_given}
+use Rattle.machine_reads.proofs.Sees.{reached_of}
+use Rattle.machine_laws.proofs.Given.{not_given}
 
 pub all_filter : {X : Type 0} (P : X → Type 0) (f : X → Bool) (xs : List X) → AllByRecursion P xs → AllByRecursion P (filter f xs)
 all_filter P f [] a = tt
@@ -79,7 +80,7 @@ module _ {R L : Type 0} (join : R → R → R) (s : Words R) (k : Layouts L) (pa
       let controlled = turned k partitions w p.control mid.control e t.control turns_mid in
       let node_same : changed (only n y) w.nodes n ≡ y = changed_own n y w.nodes in
       let may : (q : State join s k partitions H) (part : ℕ) → q.control ≡ mid.control → test part ≡ false → Rattle.plane_model.specs.Control.Gives P.control q.control n part → ⊥ = λ q part same no gives.
-      not_given join s k partitions H some (applied w e) mid g sound_mid controlled n part (ap (λ (z : Node R L). is_given k z.view n part) node_same ∙ no) (subst (λ c. Rattle.plane_model.specs.Control.Gives P.control c n part) same gives) in
+      not_given k partitions (applied w e) mid.control (reached_of join s k partitions H some mid sound_mid) controlled n part (ap (λ (z : Node R L). is_given k z.view n part) node_same ∙ no) (subst (λ c. Rattle.plane_model.specs.Control.Gives P.control c n part) same gives) in
       let happens : Happens P p acts = happens_append P first last p goes (dropping_happens join s k partitions H n test (λ q. q.control ≡ mid.control) (λ q part h. h) may x.accepted mid refl) in
       let same_run : new ≡ run P mid last = run_append P first last p in
       let control : new.control ≡ mid.control = ap (λ (q : State join s k partitions H). q.control) same_run ∙ dropping_same join s k partitions H (λ q. q.control) n (λ q part. refl) test x.accepted mid in
