@@ -1,33 +1,21 @@
 -- What a request for an item with given words is.
-use Rattle.std.proofs.Common.{◌≡◌, ℕ, false, ◌⊎◌, inl, inr, ◌<◌, ◌≤◌, List, [], ◌∷◌, length, Bor, slice_index_or, Err, refl, sym, ◌∙◌, ap, arith, nat_eq, codes, decimal}
+use Rattle.std.proofs.Common.{◌≡◌, ℕ, false, ◌⊎◌, inl, inr, ◌<◌, ◌≤◌, List, [], ◌∷◌, length, Err, refl, sym, ◌∙◌, ap, arith, nat_eq, codes, decimal}
 use Rattle.std.specs.Cmp.Lexicographic.{pointwise, told_text}
-use Rattle.std.proofs.lemmas.List.{length-map}
 use Rattle.store_model.specs.declared.event.Event.TheVariants as event
 use Rattle.text_model.specs.Grammar.{IsIn, IsFrom, first_word}
 use Rattle.schedule_text.specs.declared.fault.LineFault.{LineFault}
 use Rattle.schedule_text.specs.Kinds.{texts}
 use Rattle.schedule_text.specs.Reads.{Reads}
-use Rattle.schedule_text.proofs.Inverse.{unread}
+use Rattle.schedule_text.proofs.Inverse.{Words, at, unread, length_of, seven}
 use Rattle.k2v_model.specs.declared.order.Item.{Item}
 use Rattle.k2v_text.specs.declared.event.ItemEvent.{ItemEvent}
 use Rattle.k2v_text.specs.declared.event.ItemEvent.TheVariants.{Common, Put, Delete, Get}
 use Rattle.k2v_text.specs.Grammar.{item_words, words_of, item_range, token_range}
 use Rattle.k2v_lines.specs.Words.{IsItem, IsSpelledBy}
 
-abbrev Words : Type 0
-Words = List (Bor (List ℕ))
-
 -- a word spells a number in this range
 abbrev pub IsNumber : List ℕ → ℕ → ℕ → ℕ → Type 0
 IsNumber word low high n = (word ≡ decimal n) × IsFrom low high n
-
--- the bytes of word i
-abbrev pub at : Words → ℕ → List ℕ
-at words i = (slice_index_or words i (record { ref_ptr = (0, 0); now = [] })).now
-
--- as many words as the bytes of these
-length_of : (words : Words) (ws : List (List ℕ)) → texts words ≡ ws → length words ≡ length ws
-length_of words ws h = sym (length-map words (λ (word : Bor (List ℕ)). word.now)) ∙ ap length h
 
 pub four : (words : Words) → 4 ≤ length words → length words < 5 → texts words ≡ at words 0 ∷ at words 1 ∷ at words 2 ∷ at words 3 ∷ []
 four [] low high = absurd (omega arith)
@@ -45,18 +33,6 @@ five (a ∷ b ∷ c ∷ []) low high = absurd (omega arith)
 five (a ∷ b ∷ c ∷ d ∷ []) low high = absurd (omega arith)
 five (a ∷ b ∷ c ∷ d ∷ e ∷ []) low high = refl
 five (a ∷ b ∷ c ∷ d ∷ e ∷ f ∷ ws) low high = absurd (omega arith)
-
-pub seven : (words : Words) → 7 ≤ length words → length words < 8 →
-    texts words ≡ at words 0 ∷ at words 1 ∷ at words 2 ∷ at words 3 ∷ at words 4 ∷ at words 5 ∷ at words 6 ∷ []
-seven [] low high = absurd (omega arith)
-seven (a ∷ []) low high = absurd (omega arith)
-seven (a ∷ b ∷ []) low high = absurd (omega arith)
-seven (a ∷ b ∷ c ∷ []) low high = absurd (omega arith)
-seven (a ∷ b ∷ c ∷ d ∷ []) low high = absurd (omega arith)
-seven (a ∷ b ∷ c ∷ d ∷ e ∷ []) low high = absurd (omega arith)
-seven (a ∷ b ∷ c ∷ d ∷ e ∷ f ∷ []) low high = absurd (omega arith)
-seven (a ∷ b ∷ c ∷ d ∷ e ∷ f ∷ g ∷ []) low high = refl
-seven (a ∷ b ∷ c ∷ d ∷ e ∷ f ∷ g ∷ h ∷ ws) low high = absurd (omega arith)
 
 -- an event of another name
 another : (name : List ℕ) (ws : List (List ℕ)) (e : ItemEvent) → IsSpelledBy (name ∷ ws) e → false ≡ pointwise nat_eq name (first_word (words_of e)) → ⊥

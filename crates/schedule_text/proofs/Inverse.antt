@@ -1,4 +1,4 @@
--- What an event with given words is.
+-- What an event with given words is; and of the words of any line.
 use Rattle.std.proofs.Common.{◌≡◌, ℕ, false, sym, ◌⊎◌, inl, inr, IsTrue, ◌<◌, ◌≤◌, List, [], ◌∷◌, ◌++◌, length, take, drop, Bor, slice_index_or, refl, ◌∙◌, ap, arith, nat_eq, codes, decimal, Option, Some, None, Err}
 use Rattle.std.specs.Cmp.Lexicographic.{pointwise, told_text}
 use Rattle.std.proofs.lemmas.List.{length-map, take-append-drop}
@@ -13,11 +13,11 @@ use Rattle.schedule_text.specs.declared.line_kind.Kind.TheVariants as kind
 use Rattle.schedule_text.specs.Reads.{Reads, Finds}
 use Rattle.schedule_text.specs.Kinds.{IsObject, IsPlace, IsPrefixed, IsFilling, texts, kind_text}
 
-abbrev Words : Type 0
+abbrev pub Words : Type 0
 Words = List (Bor (List ℕ))
 
 -- the bytes of word i
-abbrev at : Words → ℕ → List ℕ
+abbrev pub at : Words → ℕ → List ℕ
 at words i = (slice_index_or words i (record { ref_ptr = (0, 0); now = [] })).now
 
 -- a part that can't be read leaves the whole unread
@@ -25,8 +25,8 @@ pub unread : {T U : Type 0} (P : T → Type 0) (Q : U → Type 0) (f : LineFault
 unread P Q Outside has none = λ x p. let y = has x p in none y.0 y.1
 unread P Q Memory has none = tt
 
--- words of this length
-length_of : (words : Words) (ws : List (List ℕ)) → texts words ≡ ws → length words ≡ length ws
+-- as many words as the bytes of these
+pub length_of : (words : Words) (ws : List (List ℕ)) → texts words ≡ ws → length words ≡ length ws
 length_of words ws h = sym (length-map words (λ (word : Bor (List ℕ)). word.now)) ∙ ap length h
 
 two : (words : Words) → 2 ≤ length words → length words < 3 → texts words ≡ at words 0 ∷ at words 1 ∷ []
@@ -34,6 +34,18 @@ two [] low high = absurd (omega arith)
 two (a ∷ []) low high = absurd (omega arith)
 two (a ∷ b ∷ []) low high = refl
 two (a ∷ b ∷ c ∷ ws) low high = absurd (omega arith)
+
+pub seven : (words : Words) → 7 ≤ length words → length words < 8 →
+    texts words ≡ at words 0 ∷ at words 1 ∷ at words 2 ∷ at words 3 ∷ at words 4 ∷ at words 5 ∷ at words 6 ∷ []
+seven [] low high = absurd (omega arith)
+seven (a ∷ []) low high = absurd (omega arith)
+seven (a ∷ b ∷ []) low high = absurd (omega arith)
+seven (a ∷ b ∷ c ∷ []) low high = absurd (omega arith)
+seven (a ∷ b ∷ c ∷ d ∷ []) low high = absurd (omega arith)
+seven (a ∷ b ∷ c ∷ d ∷ e ∷ []) low high = absurd (omega arith)
+seven (a ∷ b ∷ c ∷ d ∷ e ∷ f ∷ []) low high = absurd (omega arith)
+seven (a ∷ b ∷ c ∷ d ∷ e ∷ f ∷ g ∷ []) low high = refl
+seven (a ∷ b ∷ c ∷ d ∷ e ∷ f ∷ g ∷ h ∷ ws) low high = absurd (omega arith)
 
 module _ (words : Words) where
   pub object_few : (length words < 2) ⊎ (3 ≤ length words) → (x : List ℕ × List ℕ) → IsObject (texts words) x → ⊥

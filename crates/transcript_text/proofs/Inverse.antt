@@ -1,5 +1,5 @@
 -- What a line with given words says.
-use Rattle.std.proofs.Common.{◌≡◌, ℕ, Bool, true, false, IsTrue, List, [], ◌∷◌, ◌++◌, map, length, drop, Bor, slice_index_or, refl, sym, ap, subst, ◌∙◌, arith, nat_eq, bytes_eq, Err}
+use Rattle.std.proofs.Common.{◌≡◌, ℕ, Bool, true, false, IsTrue, List, [], ◌∷◌, ◌++◌, map, length, drop, Bor, refl, sym, ap, subst, ◌∙◌, arith, nat_eq, bytes_eq, Err}
 use Rattle.std.specs.List.{list_all}
 use Rattle.std.specs.Prelude.{◌<◌, ◌≤◌, codes, decimal}
 use Rattle.std.specs.Cmp.Lexicographic.{pointwise, told_text}
@@ -15,7 +15,7 @@ use Rattle.text_model.specs.Transcript.{done_text}
 use Rattle.schedule_text.specs.declared.fault.LineFault.{LineFault}
 use Rattle.schedule_text.specs.Reads.{Reads}
 use Rattle.schedule_text.specs.Kinds.{texts}
-use Rattle.schedule_text.proofs.Inverse.{unread}
+use Rattle.schedule_text.proofs.Inverse.{Words, at, unread, seven}
 use Rattle.audit_model.specs.declared.said.Answered.{Answered}
 use Rattle.audit_model.specs.declared.said.Told.{Told}
 use Rattle.audit_model.specs.declared.said.Said.{Said}
@@ -26,13 +26,6 @@ use Rattle.audit_model.proofs.Read.{decimal_is_number}
 use Rattle.transcript_text.specs.declared.line_kind.Kind.{Kind}
 use Rattle.transcript_text.specs.declared.line_kind.Kind.TheVariants as kind
 use Rattle.transcript_text.specs.Words.{first_text, IsSpelledBy, IsAlone, IsPair, IsTriple, IsTold, IsEvent, IsAnswered, IsDone, IsListed, AreZones, AreNodes, IsSets, IsSide, IsSent, IsDropped, IsKey, IsEnded, IsNode, IsDigest}
-
-abbrev Words : Type 0
-Words = List (Bor (List ℕ))
-
--- the bytes of word i
-abbrev at : Words → ℕ → List ℕ
-at words i = (slice_index_or words i (record { ref_ptr = (0, 0); now = [] })).now
 
 -- a line of another kind
 another : (name : List ℕ) (ws : List (List ℕ)) (s : Said) → IsSpelledBy (name ∷ ws) s → false ≡ pointwise nat_eq name (first_word (words_of s)) → ⊥
@@ -308,17 +301,6 @@ begins_not (w ∷ ws) name never = by_test (bytes_eq w.now name) refl
     by_test false e = refl
 
 -- ---- a node's line
-
-seven : (words : Words) → 7 ≤ length words → length words < 8 → texts words ≡ at words 0 ∷ at words 1 ∷ at words 2 ∷ at words 3 ∷ at words 4 ∷ at words 5 ∷ at words 6 ∷ []
-seven [] low high = absurd (omega arith)
-seven (a ∷ []) low high = absurd (omega arith)
-seven (a ∷ b ∷ []) low high = absurd (omega arith)
-seven (a ∷ b ∷ c ∷ []) low high = absurd (omega arith)
-seven (a ∷ b ∷ c ∷ d ∷ []) low high = absurd (omega arith)
-seven (a ∷ b ∷ c ∷ d ∷ e ∷ []) low high = absurd (omega arith)
-seven (a ∷ b ∷ c ∷ d ∷ e ∷ f ∷ []) low high = absurd (omega arith)
-seven (a ∷ b ∷ c ∷ d ∷ e ∷ f ∷ g ∷ []) low high = refl
-seven (a ∷ b ∷ c ∷ d ∷ e ∷ f ∷ g ∷ h ∷ ws) low high = absurd (omega arith)
 
 module _ (words : Words) (low : 7 ≤ length words) (high : length words < 8) where
   pub node_read : (n rows blocks : ℕ) (top : List ℕ) → at words 0 ≡ decimal n → at words 1 ≡ codes "rows" → at words 2 ≡ decimal rows → at words 3 ≡ codes "blocks" → at words 4 ≡ decimal blocks → at words 5 ≡ codes "top" → at words 6 ≡ encode_lower top →
