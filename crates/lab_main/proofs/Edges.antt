@@ -1,17 +1,17 @@
 -- What follows for input and output from how a last text was written.
-use Rattle.std.proofs.Common.{◌≡◌, ◌<◌, ◌≤◌, ℕ, ◌⊎◌, inl, inr, Option, Some, None, Result, Ok, Err, IfSome, List, [], ◌++◌, length, refl, sym, ◌∙◌, subst}
+use Rattle.std.proofs.Common.{◌≡◌, ◌<◌, ◌≤◌, ℕ, ◌⊎◌, inl, inr, Option, Some, None, Result, Ok, Err, IfSome, List, ◌++◌, length, refl, sym, ◌∙◌, subst}
 use Rattle.lab_outside.specs.declared.ports.Source as source
 use Rattle.lab_outside.specs.declared.ports.Sink as sink
 use Rattle.lab_outside.specs.declared.exit.Status.{Status}
 use Rattle.lab_outside.specs.declared.exit.Status.TheVariants.{Done, Refused, Usage, ReadFault, WriteFault, LinkFault, Memory as MemoryStatus, Limit}
 use Rattle.lab_outside.specs.Rose.{Rose}
-use Rattle.lab_outside.specs.Bytes.{Wrote, WrotePrefix}
+use Rattle.lab_outside.specs.Bytes.{Wrote}
 use Rattle.lab_outside.proofs.Bytes.{wrote_none, wrote_more, wrote_prefix_after, wrote_prefix_whole}
 use Rattle.lab_main.specs.Ends.{Ends, said, cut_off}
 use Rattle.lab_main.specs.Limits.{input_limit, input_line}
 use Rattle.lab_main.specs.declared.reader.InputStop.{InputStop}
 use Rattle.lab_main.specs.declared.reader.InputStop.TheVariants.{Read, Memory, Long}
-use Rattle.lab_main.specs.Input.{ReadsInput, OrTooLong, too_long, within, OfInput}
+use Rattle.lab_main.specs.Input.{ReadsInput, too_long, within, OfInput}
 use Rattle.lab_main.specs.Edges.{IsStated, IsAfterReading, Answers, Begins, nothing, begun, Writes, Edges, IsAnswered}
 
 -- what was written whole is a first part
@@ -42,10 +42,6 @@ module _ (Stated : Status → List ℕ → Type 0) (is : Status) (text : List �
 pub ends_fault : (is : Status) (text : List ℕ) (result : Status) (old new : Option (List ℕ)) (faults risen : ℕ) → (is ≡ WriteFault → ⊥) → Ends is text result old new faults risen → result ≡ WriteFault → Rose faults risen
 ends_fault is text result old new faults risen other (said e wrote) h = absurd (other (sym e ∙ h))
 ends_fault is text result old new faults risen other (cut_off e rose wrote) h = rose
-
--- a status that a text goes with isn't a fault
-pub stated_no_fault : (is : Status) → IsStated is → is ≡ WriteFault → ⊥
-stated_no_fault is h e = subst IsStated e h
 
 -- a last text that is stated was said
 pub said_writes : {O : Type 0} (o : sink.Ghosts O) (Stated : Status → List ℕ → Type 0) (is : Status) (text : List ℕ) (result : Status) (old new : O) → Stated is text → (is ≡ WriteFault → ⊥) →
