@@ -1,6 +1,6 @@
 -- That the contents for which a map stands are in order.
 use Rattle.std.proofs.Common.{◌≡◌, ℕ, true, false, cond, List, [], ◌∷◌, Option, Some, None, refl, sym, ap, ◌∙◌}
-use Rattle.std.specs.Prelude.{option_map, ◌==◌}
+use Rattle.std.specs.Prelude.{option_map}
 use Rattle.std.specs.List.{AllByRecursion}
 use Rattle.std.specs.List.Sorted.{IsStrictlySortedBy}
 use Rattle.std.specs.Map.{lookup, keys_of}
@@ -18,7 +18,7 @@ use Rattle.blake2_hash.specs.Hash.{hash_cmp, is_hash}
 use Rattle.blake2_hash.specs.HashLaws.{hash_total}
 use Rattle.block_store.specs.Contents.{IsInOrder, block_at}
 use Rattle.block_store.specs.Shelf.{Entries, contents_of, notes_of, note_before}
-use Rattle.block_store.proofs.Showing.{Sorted, Above, idle_of}
+use Rattle.block_store.proofs.Showing.{Sorted, Above}
 use Rattle.block_store.proofs.Steps.{block_shown, count_absent}
 
 -- h is below each of these
@@ -40,29 +40,6 @@ notes_sorted (e ∷ es) s =
     elim e.1.note as (λ n. IsStrictlySortedBy hash_cmp (keys_of (note_before e.0 n (notes_of es)))) [
       | None ↦ notes_sorted es s.1
       | Some t ↦ (above_noted e.0 es s.0, notes_sorted es s.1)
-    ]
-
-above_idle : (h : Hash32) (es : Entries) → Above h es → AllAbove h (idle_of es)
-above_idle h [] a = tt
-above_idle h (e ∷ es) a =
-    elim (e.1.count == 0) as (λ b. AllAbove h (cond b (note_before e.0 e.1.note (idle_of es)) (idle_of es))) [
-      | true ↦ elim e.1.note as (λ n. AllAbove h (note_before e.0 n (idle_of es))) [
-        | None ↦ above_idle h es a.1
-        | Some t ↦ (a.0, above_idle h es a.1)
-      ]
-      | false ↦ above_idle h es a.1
-    ]
-
-pub idle_sorted : (es : Entries) → Sorted es → IsStrictlySortedBy hash_cmp (keys_of (idle_of es))
-unfolding IsStrictlySortedBy
-idle_sorted [] s = tt
-idle_sorted (e ∷ es) s =
-    elim (e.1.count == 0) as (λ b. IsStrictlySortedBy hash_cmp (keys_of (cond b (note_before e.0 e.1.note (idle_of es)) (idle_of es)))) [
-      | true ↦ elim e.1.note as (λ n. IsStrictlySortedBy hash_cmp (keys_of (note_before e.0 n (idle_of es)))) [
-        | None ↦ idle_sorted es s.1
-        | Some t ↦ (above_idle e.0 es s.0, idle_sorted es s.1)
-      ]
-      | false ↦ idle_sorted es s.1
     ]
 
 pub none_noted_at : (h : Hash32) (es : Entries) → NonePasses (is_hash h) es → lookup (is_hash h) (notes_of es) ≡ None
