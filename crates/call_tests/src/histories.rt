@@ -3,7 +3,7 @@ use crdt_core::{Bytes, List, Memory};
 use crdt_rows::Version;
 use std::alloc::Global;
 use std::test::Fail;
-use world_history::{Answer, Cause, History, Kind, Record, first_stale, fresh, pairs};
+use world_history::{Answer, Cause, History, Kind, Record, check, first_stale, fresh, pairs};
 
 // What is told next of a request, in the bucket `pics` at node 1, or what the history told so far is judged as.
 #[derive(Clone, Copy)]
@@ -60,12 +60,24 @@ fn record(alloc: Global, told: Told) -> Result<Option<Record>, Memory> {
     }
 }
 
+// Whether all calls judge a history so.
+fn is_judged_so(
+    alloc: Global,
+    history: &History,
+    is_fresh: bool,
+    count: u64,
+) -> Result<bool, Memory> {
+    let checked = check(alloc, history)?;
+    let is_checked = checked.is_fresh == is_fresh && checked.pairs == count;
+    Ok(is_checked && fresh(alloc, history)? == is_fresh && pairs(alloc, history)? == count)
+}
+
 // Whether each judgement is that of what was told before it.
 fn is_judged(alloc: Global, told: &[Told]) -> Result<bool, Memory> {
     let mut history = History(List::new(alloc));
     for next in told {
         if let Told::Judged(is_fresh, count) = *next {
-            if fresh(alloc, &history)? != is_fresh || pairs(alloc, &history)? != count {
+            if !is_judged_so(alloc, &history, is_fresh, count)? {
                 return Ok(false);
             }
         }
