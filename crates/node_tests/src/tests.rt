@@ -319,34 +319,54 @@ impl Cluster {
     }
 }
 
-#[test]
-fn a_marker_is_stored_read_and_listed(rt: HostRuntime) -> Result<(), Fail> {
-    let alloc = rt.alloc();
-    let mut cluster = Cluster::new(alloc)?;
+// Node 2 asks for the marker's row: how many nodes it asks, and the row's timestamp.
+fn read_marker(cluster: &mut Cluster) -> Result<(usize, u64), Fail> {
+    let mut out = Vec::new(cluster.alloc);
+    cluster.second.phase(2, read(cluster.alloc)?, &mut out)?;
+    let asked = out.len();
+    match cluster.deliver(out)? {
+        Some(PhaseEnd::Row(Some(AnyRow::Object(row)))) => Ok((asked, row.get().greatest_ts())),
+        _ => Err("no row".into()),
+    }
+}
+
+// Node 2 lists the bucket: how many rows there are, and whether that is all.
+fn list_bucket(cluster: &mut Cluster) -> Result<(usize, bool), Fail> {
+    let mut out = Vec::new(cluster.alloc);
+    cluster.second.phase(2, scan(cluster.alloc), &mut out)?;
+    match cluster.deliver(out)? {
+        Some(PhaseEnd::Window { rows, end }) => Ok((rows.len(), end.is_none())),
+        _ => Err("no window".into()),
+    }
+}
+
+// What node 2 reads and lists of a marker, and whether node 4 is no member.
+fn marker_seen(cluster: &mut Cluster) -> Result<((usize, u64), (usize, bool), bool), Fail> {
     cluster.put()?;
-    assert!(rt; cluster.second.open(2).is_ok());
-    let mut out = Vec::new(alloc);
-    cluster.second.phase(2, read(alloc)?, &mut out)?;
-    assert_eq!(rt; out.len(), 3);
-    let Some(PhaseEnd::Row(Some(AnyRow::Object(row)))) = cluster.deliver(out)? else {
-        return Err("no row".into());
-    };
-    assert_eq!(rt; row.get().greatest_ts(), 5);
-    let mut out = Vec::new(alloc);
-    cluster.second.phase(2, scan(alloc), &mut out)?;
-    let Some(PhaseEnd::Window { rows, end }) = cluster.deliver(out)? else {
-        return Err("no window".into());
-    };
-    assert_eq!(rt; rows.len(), 1);
-    assert!(rt; end.is_none());
-    assert!(rt; cluster.fourth.open(3) == Err(BeginFault::NotMember));
-    Ok(())
+    if cluster.second.open(2).is_err() {
+        return Err("not open".into());
+    }
+    let row = read_marker(cluster)?;
+    let listed = list_bucket(cluster)?;
+    let is_outside = cluster.fourth.open(3) == Err(BeginFault::NotMember);
+    Ok((row, listed, is_outside))
+}
+
+fn marker_told(alloc: Global) -> Result<((usize, u64), (usize, bool), bool), Fail> {
+    let mut cluster = Cluster::new(alloc)?;
+    marker_seen(&mut cluster)
 }
 
 #[test]
-fn rows_move_to_the_nodes_of_the_next_version(rt: HostRuntime) -> Result<(), Fail> {
-    let alloc = rt.alloc();
-    let mut cluster = Cluster::new(alloc)?;
+fn a_marker_is_stored_read_and_listed(rt: HostRuntime) -> Result<(), Fail> {
+    assert_eq!(rt; marker_told(rt.alloc())?, ((3, 5), (1, true), true));
+    Ok(())
+}
+
+// Version 2 comes to each node behind a marker and a block, and is acknowledged: the least that node 2 knows to be so, and
+// the rows of node 4.
+fn change(cluster: &mut Cluster) -> Result<(u32, usize), Fail> {
+    let alloc = cluster.alloc;
     cluster.put()?;
     cluster.put_block()?;
     append(alloc, &mut cluster.first, 2)?;
@@ -354,25 +374,75 @@ fn rows_move_to_the_nodes_of_the_next_version(rt: HostRuntime) -> Result<(), Fai
     append(alloc, &mut cluster.third, 2)?;
     append(alloc, &mut cluster.fourth, 2)?;
     cluster.act_all(Action::Ack)?;
-    assert_eq!(rt; cluster.second.view().ack_least(), 2);
-    assert_eq!(rt; cluster.fourth.table().len(), 0);
+    let least = cluster.second.view().ack_least();
+    Ok((least, cluster.fourth.table().len()))
+}
+
+// Each node has its round: the rows and blocks of node 4, and the version that it reads.
+fn sync(cluster: &mut Cluster) -> Result<(usize, usize, u32), Fail> {
     cluster.act_all(Action::Sync)?;
-    assert_eq!(rt; cluster.fourth.table().len(), 2);
-    assert_eq!(rt; cluster.fourth.block_count(), 1);
-    assert_eq!(rt; cluster.fourth.view().read_version(), 2);
+    let node = &cluster.fourth;
+    Ok((
+        node.table().len(),
+        node.block_count(),
+        node.view().read_version(),
+    ))
+}
+
+// That rounds are complete is acknowledged: the rows of node 1 then, and once nodes clean with the oldest version of node 4.
+fn clean(cluster: &mut Cluster) -> Result<(usize, u32, usize), Fail> {
     cluster.act_all(Action::SyncAck)?;
-    assert_eq!(rt; cluster.first.table().len(), 2);
+    let kept = cluster.first.table().len();
     cluster.act_all(Action::Clean)?;
-    assert_eq!(rt; cluster.fourth.view().oldest(), 2);
-    assert_eq!(rt; cluster.first.table().len(), 0);
-    assert_eq!(rt;
-        work(alloc, &mut cluster.first, 600_000)?,
-        LocalEnd::Worked { rows: 0, blocks: 1 }
-    );
+    let oldest = cluster.fourth.view().oldest();
+    Ok((kept, oldest, cluster.first.table().len()))
+}
+
+// What node 1 drops of its block once it is idle long enough, and what a round of node 2 does where there is none to have.
+fn end_change(cluster: &mut Cluster) -> Result<(LocalEnd, LocalEnd), Fail> {
+    let alloc = cluster.alloc;
+    let worked = work(alloc, &mut cluster.first, 600_000)?;
     let mut out = Vec::new(alloc);
     let idle = act(&mut cluster.second, Action::Sync, &mut out)?;
+    Ok((worked, idle))
+}
+
+// How rows moved to the nodes of a version, step after step.
+#[derive(Drop)]
+struct Moved {
+    changed: (u32, usize),
+    synced: (usize, usize, u32),
+    cleaned: (usize, u32, usize),
+    ended: (LocalEnd, LocalEnd),
+}
+
+fn move_rows(cluster: &mut Cluster) -> Result<Moved, Fail> {
+    let changed = change(cluster)?;
+    let synced = sync(cluster)?;
+    let cleaned = clean(cluster)?;
+    let ended = end_change(cluster)?;
+    Ok(Moved {
+        changed,
+        synced,
+        cleaned,
+        ended,
+    })
+}
+
+fn rows_moved(alloc: Global) -> Result<Moved, Fail> {
+    let mut cluster = Cluster::new(alloc)?;
+    move_rows(&mut cluster)
+}
+
+#[test]
+fn rows_move_to_the_nodes_of_the_next_version(rt: HostRuntime) -> Result<(), Fail> {
+    let moved = rows_moved(rt.alloc())?;
+    assert_eq!(rt; moved.changed, (2, 0));
+    assert_eq!(rt; moved.synced, (2, 1, 2));
+    assert_eq!(rt; moved.cleaned, (2, 2, 0));
+    assert_eq!(rt; moved.ended.0, LocalEnd::Worked { rows: 0, blocks: 1 });
     assert_eq!(rt;
-        idle,
+        moved.ended.1,
         LocalEnd::Idle {
             read: 2,
             ack_least: 2
@@ -381,58 +451,114 @@ fn rows_move_to_the_nodes_of_the_next_version(rt: HostRuntime) -> Result<(), Fai
     Ok(())
 }
 
+// Node 2 asks for a block by its hash: whether it has these bytes. None where there is no such block.
+fn is_block(cluster: &mut Cluster, hash: Hash32, bytes: &[u8]) -> Result<Option<bool>, Fail> {
+    let mut out = Vec::new(cluster.alloc);
+    cluster.second.phase(2, Phase::Block { hash }, &mut out)?;
+    match cluster.deliver(out)? {
+        Some(PhaseEnd::Block(block)) => Ok(Some(block.as_slice() == bytes)),
+        Some(_) => Err("no block".into()),
+        None => Ok(None),
+    }
+}
+
+// A block comes to node 2: how many it has then, whether it reads it, and what it reads by the hash of none.
+fn keep_block(cluster: &mut Cluster) -> Result<(usize, Option<bool>, Option<bool>), Fail> {
+    cluster.put_block()?;
+    let count = cluster.second.block_count();
+    if cluster.second.open(2).is_err() {
+        return Err("not open".into());
+    }
+    let found = is_block(cluster, blake2b_256(BLOCK), BLOCK)?;
+    let other = is_block(cluster, BUCKET, BLOCK)?;
+    Ok((count, found, other))
+}
+
+// Its reference is deleted: what node 2 drops just before it is idle long enough and then, and how many blocks it has left.
+fn drop_block(cluster: &mut Cluster) -> Result<(LocalEnd, LocalEnd, usize), Fail> {
+    let alloc = cluster.alloc;
+    cluster.store(reference(true), None)?;
+    let early = work(alloc, &mut cluster.second, 599_999)?;
+    let late = work(alloc, &mut cluster.second, 600_000)?;
+    Ok((early, late, cluster.second.block_count()))
+}
+
+// What became of a block with its reference.
+#[derive(Drop)]
+struct BlockTold {
+    kept: (usize, Option<bool>, Option<bool>),
+    dropped: (LocalEnd, LocalEnd, usize),
+}
+
+fn keep_and_drop_block(cluster: &mut Cluster) -> Result<BlockTold, Fail> {
+    let kept = keep_block(cluster)?;
+    let dropped = drop_block(cluster)?;
+    Ok(BlockTold { kept, dropped })
+}
+
+fn block_told(alloc: Global) -> Result<BlockTold, Fail> {
+    let mut cluster = Cluster::new(alloc)?;
+    keep_and_drop_block(&mut cluster)
+}
+
 #[test]
 fn a_block_is_kept_and_read_while_its_reference_is_live(rt: HostRuntime) -> Result<(), Fail> {
-    let alloc = rt.alloc();
-    let mut cluster = Cluster::new(alloc)?;
-    cluster.put_block()?;
-    assert_eq!(rt; cluster.second.block_count(), 1);
-    assert!(rt; cluster.second.open(2).is_ok());
-    let mut out = Vec::new(alloc);
-    let hash = blake2b_256(BLOCK);
-    cluster.second.phase(2, Phase::Block { hash }, &mut out)?;
-    let Some(PhaseEnd::Block(block)) = cluster.deliver(out)? else {
-        return Err("no block".into());
-    };
-    assert_eq!(rt; block.as_slice(), BLOCK);
-    let mut out = Vec::new(alloc);
-    cluster
-        .second
-        .phase(2, Phase::Block { hash: BUCKET }, &mut out)?;
-    assert!(rt; cluster.deliver(out)?.is_none());
-    cluster.store(reference(true), None)?;
-    assert_eq!(rt;
-        work(alloc, &mut cluster.second, 599_999)?,
-        LocalEnd::Worked { rows: 0, blocks: 0 }
-    );
-    assert_eq!(rt;
-        work(alloc, &mut cluster.second, 600_000)?,
-        LocalEnd::Worked { rows: 0, blocks: 1 }
-    );
-    assert_eq!(rt; cluster.second.block_count(), 0);
+    let told = block_told(rt.alloc())?;
+    assert_eq!(rt; told.kept, (1, Some(true), None));
+    assert_eq!(rt; told.dropped.0, LocalEnd::Worked { rows: 0, blocks: 0 });
+    assert_eq!(rt; told.dropped.1, LocalEnd::Worked { rows: 0, blocks: 1 });
+    assert_eq!(rt; told.dropped.2, 0);
     Ok(())
+}
+
+// Node 1 restarts while two requests are open, of which one asked for a row: whether it loses these two, and whether nothing
+// ends by what it asked for.
+fn restart(cluster: &mut Cluster) -> Result<(bool, bool), Fail> {
+    let alloc = cluster.alloc;
+    cluster.put()?;
+    if cluster.first.open(4).is_err() || cluster.first.open(7).is_err() {
+        return Err("not open".into());
+    }
+    let mut out = Vec::new(alloc);
+    cluster.first.phase(7, read(alloc)?, &mut out)?;
+    let is_lost = cluster.first.restart()?.as_slice() == [4, 7].as_slice();
+    Ok((is_lost, cluster.deliver(out)?.is_none()))
+}
+
+// Node 1 repairs: what that does, with how many messages, and what it works then.
+fn repair(cluster: &mut Cluster) -> Result<(LocalEnd, usize, LocalEnd), Fail> {
+    let mut out = Vec::new(cluster.alloc);
+    let repaired = act(&mut cluster.first, Action::Repair, &mut out)?;
+    let sent = out.len();
+    let worked = work(cluster.alloc, &mut cluster.first, 0)?;
+    Ok((repaired, sent, worked))
+}
+
+// What a restart and a repair do.
+#[derive(Drop)]
+struct Restarted {
+    lost: (bool, bool),
+    repaired: (LocalEnd, usize, LocalEnd),
+}
+
+fn restart_and_repair(cluster: &mut Cluster) -> Result<Restarted, Fail> {
+    let lost = restart(cluster)?;
+    let repaired = repair(cluster)?;
+    Ok(Restarted { lost, repaired })
+}
+
+fn restart_told(alloc: Global) -> Result<Restarted, Fail> {
+    let mut cluster = Cluster::new(alloc)?;
+    restart_and_repair(&mut cluster)
 }
 
 #[test]
 fn a_restart_loses_requests_and_a_repair_pushes_rows(rt: HostRuntime) -> Result<(), Fail> {
-    let alloc = rt.alloc();
-    let mut cluster = Cluster::new(alloc)?;
-    cluster.put()?;
-    assert!(rt; cluster.first.open(4).is_ok());
-    assert!(rt; cluster.first.open(7).is_ok());
-    let mut out = Vec::new(alloc);
-    cluster.first.phase(7, read(alloc)?, &mut out)?;
-    assert_eq!(rt; cluster.first.restart()?.as_slice(), [4, 7].as_slice());
-    assert!(rt; cluster.deliver(out)?.is_none());
-    let mut out = Vec::new(alloc);
-    assert_eq!(rt;
-        act(&mut cluster.first, Action::Repair, &mut out)?,
-        LocalEnd::Repaired
-    );
-    assert_eq!(rt; out.len(), 2);
-    let mut out = Vec::new(alloc);
-    let worked = act(&mut cluster.first, Action::Work, &mut out)?;
-    assert_eq!(rt; worked, LocalEnd::Worked { rows: 0, blocks: 0 });
+    let told = restart_told(rt.alloc())?;
+    assert_eq!(rt; told.lost, (true, true));
+    assert_eq!(rt; told.repaired.0, LocalEnd::Repaired);
+    assert_eq!(rt; told.repaired.1, 2);
+    assert_eq!(rt; told.repaired.2, LocalEnd::Worked { rows: 0, blocks: 0 });
     Ok(())
 }
 
@@ -499,23 +625,66 @@ fn with_tomb(alloc: Global) -> Result<Node<S3Schema>, Fail> {
     Ok(node)
 }
 
+// What a node does by the calls of one round: how many collections began and are open, and how many messages it sent, call by
+// call; and what the others' answers drop, with how many messages.
+type Round = ([(u64, u64, usize); 2], (Option<(u64, u64)>, usize));
+
+// The first round: a call too early, one that begins it, one that sends again, and its answers.
+fn first_round(
+    alloc: Global,
+    node: &mut Node<S3Schema>,
+) -> Result<((u64, u64, usize), Round), Fail> {
+    let early = collect(alloc, node, 86_400_004)?;
+    let begun = collect(alloc, node, 86_400_005)?;
+    let again = collect(alloc, node, 86_400_006)?;
+    let answered = confirmed(alloc, node, 1, 86_400_007)?;
+    Ok((early, ([begun, again], answered)))
+}
+
+// The second round: a call too early, one that sends, and its answers.
+fn second_round(alloc: Global, node: &mut Node<S3Schema>) -> Result<Round, Fail> {
+    let early = collect(alloc, node, 97_200_006)?;
+    let sent = collect(alloc, node, 97_200_007)?;
+    let answered = confirmed(alloc, node, 2, 97_200_008)?;
+    Ok(([early, sent], answered))
+}
+
+// What became of a tombstone: the rows of its node before its collection and after it, and what the calls did.
+#[derive(Drop)]
+struct Collected {
+    rows: (usize, usize),
+    first: ((u64, u64, usize), Round),
+    second: Round,
+    after: (u64, u64, usize),
+}
+
+fn collect_tomb(alloc: Global, node: &mut Node<S3Schema>) -> Result<Collected, Fail> {
+    let before = node.table().len();
+    let first = first_round(alloc, node)?;
+    let second = second_round(alloc, node)?;
+    let left = node.table().len();
+    let after = collect(alloc, node, 97_200_009)?;
+    Ok(Collected {
+        rows: (before, left),
+        first,
+        second,
+        after,
+    })
+}
+
+fn tomb_told(alloc: Global) -> Result<Collected, Fail> {
+    let mut node = with_tomb(alloc)?;
+    collect_tomb(alloc, &mut node)
+}
+
 #[test]
 fn a_tombstone_is_collected_in_two_rounds(rt: HostRuntime) -> Result<(), Fail> {
-    let alloc = rt.alloc();
-    let mut node = with_tomb(alloc)?;
-    assert_eq!(rt; node.table().len(), 1);
-    assert_eq!(rt; collect(alloc, &mut node, 86_400_004)?, (0, 0, 0));
-    assert_eq!(rt; collect(alloc, &mut node, 86_400_005)?, (1, 1, 15));
-    assert_eq!(rt; collect(alloc, &mut node, 86_400_006)?, (0, 1, 15));
-    assert_eq!(rt; confirmed(alloc, &mut node, 1, 86_400_007)?, (None, 0));
-    assert_eq!(rt; collect(alloc, &mut node, 97_200_006)?, (0, 1, 0));
-    assert_eq!(rt; collect(alloc, &mut node, 97_200_007)?, (0, 1, 15));
-    assert_eq!(rt;
-        confirmed(alloc, &mut node, 2, 97_200_008)?,
-        (Some((5, 5)), 15)
-    );
-    assert_eq!(rt; node.table().len(), 0);
-    assert_eq!(rt; collect(alloc, &mut node, 97_200_009)?, (0, 0, 0));
+    let told = tomb_told(rt.alloc())?;
+    assert_eq!(rt; told.rows, (1, 0));
+    assert_eq!(rt; told.first.0, (0, 0, 0));
+    assert_eq!(rt; told.first.1, ([(1, 1, 15), (0, 1, 15)], (None, 0)));
+    assert_eq!(rt; told.second, ([(0, 1, 0), (0, 1, 15)], (Some((5, 5)), 15)));
+    assert_eq!(rt; told.after, (0, 0, 0));
     Ok(())
 }
 
@@ -536,24 +705,50 @@ fn forgotten(
     hear(alloc, node, 2, message, 0, &mut out)
 }
 
-#[test]
-fn a_collected_row_is_forgotten_elsewhere(rt: HostRuntime) -> Result<(), Fail> {
-    let alloc = rt.alloc();
-    let mut node = with_tomb(alloc)?;
+// What a node with a tombstone drops that is told to forget another row, its row, and its row once more.
+fn forget(alloc: Global, node: &mut Node<S3Schema>) -> Result<[Option<(u64, u64)>; 3], Fail> {
     let other = S3Schema::row_bytes(alloc, &marker(alloc, 6)?)?;
     let row = S3Schema::row_bytes(alloc, &marker(alloc, 5)?)?;
-    assert_eq!(rt; forgotten(alloc, &mut node, &other)?, None);
-    assert_eq!(rt; forgotten(alloc, &mut node, &row)?, Some((5, 5)));
-    assert_eq!(rt; forgotten(alloc, &mut node, &row)?, None);
+    let none = forgotten(alloc, node, &other)?;
+    let dropped = forgotten(alloc, node, &row)?;
+    let again = forgotten(alloc, node, &row)?;
+    Ok([none, dropped, again])
+}
+
+fn forgets(alloc: Global) -> Result<[Option<(u64, u64)>; 3], Fail> {
+    let mut node = with_tomb(alloc)?;
+    forget(alloc, &mut node)
+}
+
+#[test]
+fn a_collected_row_is_forgotten_elsewhere(rt: HostRuntime) -> Result<(), Fail> {
+    assert_eq!(rt; forgets(rt.alloc())?, [None, Some((5, 5)), None]);
     Ok(())
+}
+
+// A collection begins, the node restarts, and it begins once more: what the calls did, and how many requests were lost.
+fn restart_collecting(
+    alloc: Global,
+    node: &mut Node<S3Schema>,
+) -> Result<((u64, u64, usize), usize, (u64, u64, usize)), Fail> {
+    let begun = collect(alloc, node, 86_400_005)?;
+    let lost = node.restart()?.len();
+    let again = collect(alloc, node, 86_400_006)?;
+    Ok((begun, lost, again))
+}
+
+fn restarted_collecting(
+    alloc: Global,
+) -> Result<((u64, u64, usize), usize, (u64, u64, usize)), Fail> {
+    let mut node = with_tomb(alloc)?;
+    restart_collecting(alloc, &mut node)
 }
 
 #[test]
 fn a_restart_loses_collections(rt: HostRuntime) -> Result<(), Fail> {
-    let alloc = rt.alloc();
-    let mut node = with_tomb(alloc)?;
-    assert_eq!(rt; collect(alloc, &mut node, 86_400_005)?, (1, 1, 15));
-    assert_eq!(rt; node.restart()?.len(), 0);
-    assert_eq!(rt; collect(alloc, &mut node, 86_400_006)?, (1, 1, 15));
+    assert_eq!(rt;
+        restarted_collecting(rt.alloc())?,
+        ((1, 1, 15), 0, (1, 1, 15))
+    );
     Ok(())
 }
